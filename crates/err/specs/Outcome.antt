@@ -1,0 +1,28 @@
+-- What a call comes to in document 01's numbers: a refusal with its span, or a reading.
+-- Assumes nothing.
+use Prim.Native.Nat.{ℕ}
+use mathlib.Core.Bool.{Bool}
+
+-- 01: "a refusal carries a span that is either none or two offsets, the second excluded"
+pub data Place : Type 0 where
+  none : Place
+  between : ℕ → ℕ → Place
+
+-- 01, Quoted kinds: "hashes (or not raw)"
+pub data Rawness : Type 0 where
+  notRaw : Rawness
+  raw : ℕ → Rawness
+
+-- 01: "truth; or base and both ends of the digits; or the three float ends; or the value; or hashes (or not raw) and value length"
+pub data Values : Type 0 where
+  truth : Bool → Values
+  digits : ℕ → ℕ → ℕ → Values
+  ends : ℕ → ℕ → ℕ → Values
+  value : ℕ → Values
+  decoded : Rawness → ℕ → Values
+
+-- A reading, as document 01 coins the word: "kind, start of suffix, and" its values; "it is accepted or refused", with a
+-- refusal's number and span.
+pub data Outcome : Type 0 where
+  refused : ℕ → Place → Outcome
+  accepted : ℕ → ℕ → Values → Outcome

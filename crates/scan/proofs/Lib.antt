@@ -1,0 +1,5 @@
+pub mod Cases
+pub mod Tables
+pub mod Parts
+pub mod Runs
+pub mod Sames

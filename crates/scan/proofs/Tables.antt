@@ -1,0 +1,63 @@
+-- A rule of a table, or of every number below a bound, proved by one test that antt computes.
+-- Assumes nothing.
+use mathlib.Core.Path.{_≡_, refl, sym, _∙_, subst}
+use mathlib.Core.Bool.{Bool, true, false, not, _&&_}
+use mathlib.Core.List.{List, [], _∷_}
+use Prim.Native.Nat.{ℕ, zero, suc, _+_, _≤_, _<_}
+use native.Mathlib.Nat.{add-zero, zero-add, add-suc, suc-add, le-of-suc-le-suc, not-suc-le-zero}
+use native.Mathlib.Omega.{arith}
+use lib.Dec.{T, eqb, eqb→eq}
+use lib.ListN.{length, getD}
+use Rattle.scan.proofs.Cases.{by-lt}
+
+both-left : (a b : Bool) → T (a && b) → T a
+both-left true b t = tt
+both-left false b t = t
+
+both-right : (a b : Bool) → T (a && b) → T b
+both-right true b t = t
+both-right false b t = absurd t
+
+-- ---- every number below a bound
+
+-- the test holds at every number below n
+abbrev pub everyBelow : (ℕ → Bool) → ℕ → Bool
+everyBelow f zero = true
+everyBelow f (suc n) = f n && everyBelow f n
+
+pub below : (f : ℕ → Bool) (n : ℕ) → T (everyBelow f n) → (k : ℕ) → k < n → T (f k)
+below f zero t k h = absurd (not-suc-le-zero h)
+below f (suc n) t k h =
+    by-lt k n (λ l. below f n (both-right (f n) (everyBelow f n) t) k l)
+    (λ l. let e : n ≡ k = omega arith in subst (λ (m : ℕ). T (f m)) e (both-left (f n) (everyBelow f n) t))
+
+abbrev pub same : Bool → Bool → Bool
+same true c = c
+same false c = not c
+
+same-eq : (a c : Bool) → T (same a c) → a ≡ c
+same-eq true true t = refl
+same-eq true false t = absurd t
+same-eq false true t = absurd t
+same-eq false false t = refl
+
+-- two tests that agree below n
+pub agreed : (f g : ℕ → Bool) (n : ℕ) → T (everyBelow (λ k. same (f k) (g k)) n) → (k : ℕ) → k < n → f k ≡ g k
+agreed f g n t k h = same-eq (f k) (g k) (below (λ k. same (f k) (g k)) n t k h)
+
+-- ---- every entry of a table
+
+-- each entry of the list is what f gives at its place, counted from i
+abbrev pub every : (ℕ → ℕ) → ℕ → List ℕ → Bool
+every f i [] = true
+every f i (x ∷ xs) = eqb x (f i) && every f (suc i) xs
+
+from : (f : ℕ → ℕ) (xs : List ℕ) (i : ℕ) → T (every f i xs) → (k : ℕ) → k < length xs → getD xs k 0 ≡ f (i + k)
+from f [] i t k h = absurd (not-suc-le-zero h)
+from f (x ∷ xs) i t zero h = eqb→eq x (f i) (both-left (eqb x (f i)) (every f (suc i) xs) t) ∙ rw add-zero
+from f (x ∷ xs) i t (suc k) h = from f xs (suc i) (both-right (eqb x (f i)) (every f (suc i) xs) t) k (le-of-suc-le-suc h) ∙ rw (suc-add, add-suc)
+
+pub at : (f : ℕ → ℕ) (n : ℕ) (xs : List ℕ) → T (eqb (length xs) n && every f 0 xs) → (k : ℕ) → k < n → getD xs k 0 ≡ f k
+at f n xs t k h =
+    let same = eqb→eq (length xs) n (both-left (eqb (length xs) n) (every f 0 xs) t) in
+    from f xs 0 (both-right (eqb (length xs) n) (every f 0 xs) t) k (omega arith) ∙ rw zero-add

@@ -1,0 +1,4 @@
+pub mod Byte
+pub mod Same
+pub mod Run
+pub mod Sets

@@ -1,0 +1,19 @@
+-- Sets of bytes that are told by one byte.
+-- Assumes nothing.
+use Prim.Native.Nat.{ℕ}
+use mathlib.Core.Bool.{Bool, not}
+use lib.Dec.{eqb}
+use Rattle.scan.specs.declared.ByteSet.{ByteSet}
+use Rattle.scan.specs.declared.ByteSet.the-variants.{Except, Only}
+
+-- any byte but x
+unfoldable pub except : ℕ → ℕ → Bool
+except x b = not (eqb b x)
+
+-- the byte x alone
+unfoldable pub only : ℕ → ℕ → Bool
+only x b = eqb b x
+
+abbrev pub inSet : ByteSet → ℕ → Bool
+inSet (Except x) = except x
+inSet (Only x) = only x
