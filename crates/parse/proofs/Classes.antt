@@ -1,0 +1,162 @@
+-- What the classes say of bytes: each set told by class is one told by comparisons. A test of the 128 bytes below, and one class above.
+-- Assumes nothing.
+use mathlib.Core.Path.{_≡_, refl, sym, _∙_}
+use mathlib.Core.Bool.{Bool, true, false, not, _&&_, _||_, and-false, or-true, or-false}
+use mathlib.Core.Logic.{_⊎_, inl, inr, ⊎-map}
+use Prim.Native.Nat.{ℕ, _-_, _≤_, _<_}
+use native.Mathlib.Omega.{arith}
+use lib.Dec.{T, leb, ltb, eqb}
+use borrow.Author.Tests.{ltb-true, leb-true, eqb-true, lt-ltb, le-ltb, le-leb, lt-leb, ne-eqb, not-true}
+use Rattle.scan.proofs.Cases.{by-lt, cond-lt, clash}
+use Rattle.scan.proofs.Tables.{everyBelow, same, agreed}
+use Rattle.parse.specs.Class.{classOf, within}
+use Rattle.parse.specs.Sets.{inClass, inSet, digit, suffixRest, blank, decimal, hexDigitOf}
+use Rattle.parse.specs.Suffix.{suffixStart}
+use Rattle.parse.specs.declared.ClassSet.{ClassSet}
+use Rattle.parse.specs.declared.ClassSet.the-variants.{Digits, SuffixRest, Blanks}
+use Rattle.parse.specs.declared.HexDigit.{HexDigit}
+use Rattle.parse.specs.declared.HexDigit.the-variants.{Value}
+
+-- ---- tests
+
+pub both : (a b : Bool) → (a && b) ≡ true → (a ≡ true) × (b ≡ true)
+both true b e = (refl, e)
+both false b e = clash e refl
+
+pub either : (a b : Bool) → (a || b) ≡ true → (a ≡ true) ⊎ (b ≡ true)
+either true b e = inl refl
+either false b e = inr e
+
+pub within-above : (a e b : ℕ) → e < b → within a e b ≡ false
+within-above a e b h = rw (lt-leb b e h, and-false)
+
+pub within-is : (a e b : ℕ) → a ≤ b → b ≤ e → within a e b ≡ true
+within-is a e b h g = rw (le-leb a b h, le-leb b e g)
+
+pub within-ends : (a e b : ℕ) → within a e b ≡ true → (a ≤ b) × (b ≤ e)
+within-ends a e b t = let p = both (leb a b) (leb b e) t in (leb-true a b (p .0), leb-true b e (p .1))
+
+-- ---- the class
+
+pub class-above : (b : ℕ) → 128 ≤ b → classOf b ≡ 20
+unfolding classOf
+class-above b h =
+    rw (within-above 48 57 b (omega arith), within-above 97 102 b (omega arith), within-above 65 70 b (omega arith), ne-eqb b 95 (omega arith), within-above 97 122 b (omega arith), within-above 65 90 b (omega arith), ne-eqb b 32 (omega arith), ne-eqb b 9 (omega arith), ne-eqb b 10 (omega arith), le-ltb b 128 h)
+
+-- two tests that agree below 128 and from 128 on are one
+everywhere : (f g : ℕ → Bool) → T (everyBelow (λ b. same (f b) (g b)) 128) → ((b : ℕ) → 128 ≤ b → f b ≡ g b) → (b : ℕ) → f b ≡ g b
+everywhere f g t h b = by-lt b 128 (agreed f g 128 t b) (h b)
+
+pub class-underscore : classOf 95 ≡ 16
+unfolding classOf
+class-underscore = refl
+
+pub class-underscore-is : (b : ℕ) → eqb (classOf b) 16 ≡ eqb b 95
+unfolding classOf
+class-underscore-is = everywhere (λ b. eqb (classOf b) 16) (λ b. eqb b 95) tt (λ b h. rw (class-above b h, ne-eqb b 95 (omega arith)))
+
+pub class-most : (b : ℕ) → classOf b ≤ 20
+unfolding classOf
+class-most b = leb-true (classOf b) 20 (everywhere (λ b. leb (classOf b) 20) (λ b. true) tt (λ b h. rw (class-above b h)) b)
+
+-- a test of a byte by a set is a test of its class
+pub set-class : (set : ClassSet) (b : ℕ) → inSet set b ≡ inClass set (classOf b)
+unfolding digit suffixRest blank
+set-class (Digits base) b = refl
+set-class SuffixRest b = refl
+set-class Blanks b = refl
+
+-- ---- decimal digits
+
+pub decimal-is : (b : ℕ) → decimal b ≡ within 48 57 b
+unfolding decimal classOf
+decimal-is = everywhere decimal (within 48 57) tt (λ b h. rw (class-above b h, within-above 48 57 b (omega arith)))
+
+pub decimal-ends : (b : ℕ) → decimal b ≡ true → (48 ≤ b) × (b ≤ 57)
+decimal-ends b t = within-ends 48 57 b (sym (decimal-is b) ∙ t)
+
+pub decimal-within : (b : ℕ) → 48 ≤ b → b ≤ 57 → decimal b ≡ true
+decimal-within b h g = decimal-is b ∙ within-is 48 57 b h g
+
+pub class-decimal : (b : ℕ) → classOf b < 10 → classOf b ≡ b - 48
+unfolding decimal classOf
+class-decimal b h = rw (sym (decimal-is b) ∙ lt-ltb (classOf b) 10 h)
+
+-- ---- digits and `_`
+
+pub digit-underscore : (base : ℕ) → digit base 95 ≡ true
+unfolding digit
+digit-underscore base = rw class-underscore
+
+pub digit-below : (base b : ℕ) → classOf b < base → digit base b ≡ true
+unfolding digit
+digit-below base b h = rw (lt-ltb (classOf b) base h, or-true)
+
+pub digit-cases : (base b : ℕ) → digit base b ≡ true → (b ≡ 95) ⊎ (classOf b < base)
+unfolding digit
+digit-cases base b t =
+    ⊎-map (λ e. eqb-true b 95 (sym (class-underscore-is b) ∙ e)) (λ e. ltb-true (classOf b) base e)
+    (either (eqb (classOf b) 16) (ltb (classOf b) base) t)
+
+pub digit-decimal : (base b : ℕ) → 10 ≤ base → decimal b ≡ true → digit base b ≡ true
+unfolding decimal
+digit-decimal base b h t = digit-below base b (omega (arith, ltb-true (classOf b) 10 t))
+
+pub digit-ten : (b : ℕ) → digit 10 b ≡ (eqb b 95 || decimal b)
+unfolding digit decimal
+digit-ten b = rw class-underscore-is
+
+pub digit-ten-cases : (b : ℕ) → digit 10 b ≡ true → (b ≡ 95) ⊎ (decimal b ≡ true)
+digit-ten-cases b t = ⊎-map (eqb-true b 95) (λ e. e) (either (eqb b 95) (decimal b) (sym (digit-ten b) ∙ t))
+
+-- ---- suffixes
+
+pub start-above : (b : ℕ) → 128 ≤ b → suffixStart b ≡ true
+unfolding suffixStart suffixRest
+start-above b h = rw (class-above b h)
+
+pub start-is : (b : ℕ) → suffixStart b ≡ (eqb b 95 || (within 97 122 b || (within 65 90 b || leb 128 b)))
+unfolding suffixStart suffixRest classOf
+start-is =
+    everywhere suffixStart (λ b. eqb b 95 || (within 97 122 b || (within 65 90 b || leb 128 b))) tt
+    (λ b h. rw (start-above b h, le-leb 128 b h, or-true, or-true, or-true))
+
+pub rest-is : (b : ℕ) → suffixRest b ≡ (suffixStart b || decimal b)
+unfolding suffixStart suffixRest decimal classOf
+rest-is = everywhere suffixRest (λ b. suffixStart b || decimal b) tt (λ b h. rw (class-above b h))
+
+pub start-not-decimal : (b : ℕ) → suffixStart b ≡ true → decimal b ≡ false
+unfolding suffixStart decimal
+start-not-decimal b t = not-true (decimal b) (both (not (decimal b)) (suffixRest b) t .0)
+
+-- a run of decimal digits and `_` goes into a suffix only by `_`
+pub start-digit : (b : ℕ) → suffixStart b ≡ true → digit 10 b ≡ eqb b 95
+start-digit b t = rw (digit-ten, start-not-decimal b t, or-false)
+
+-- ---- blanks
+
+pub blank-is : (b : ℕ) → blank b ≡ (eqb b 32 || (eqb b 9 || eqb b 10))
+unfolding blank classOf
+blank-is =
+    everywhere blank (λ b. eqb b 32 || (eqb b 9 || eqb b 10)) tt
+    (λ b h. rw (class-above b h, ne-eqb b 32 (omega arith), ne-eqb b 9 (omega arith), ne-eqb b 10 (omega arith)))
+
+pub blank-cases : (b : ℕ) → blank b ≡ true → (b ≡ 32) ⊎ ((b ≡ 9) ⊎ (b ≡ 10))
+blank-cases b t =
+    ⊎-map (eqb-true b 32) (λ e. ⊎-map (eqb-true b 9) (eqb-true b 10) (either (eqb b 9) (eqb b 10) e))
+    (either (eqb b 32) (eqb b 9 || eqb b 10) (sym (blank-is b) ∙ t))
+
+-- ---- hex digits
+
+pub hex-is : (b : ℕ) → ltb (classOf b) 16 ≡ (within 48 57 b || (within 97 102 b || within 65 70 b))
+unfolding classOf
+hex-is =
+    everywhere (λ b. ltb (classOf b) 16) (λ b. within 48 57 b || (within 97 102 b || within 65 70 b)) tt
+    (λ b h. rw (class-above b h, within-above 48 57 b (omega arith), within-above 97 102 b (omega arith), within-above 65 70 b (omega arith)))
+
+pub hex-class : (b v : ℕ) → hexDigitOf b ≡ Value v → (v ≡ classOf b) × (v < 16)
+unfolding hexDigitOf
+hex-class b v =
+    cond-lt (λ (h : HexDigit). h ≡ Value v → (v ≡ classOf b) × (v < 16)) (classOf b) 16
+    (λ l e. let q : v ≡ classOf b = cc in (q, omega arith))
+    (λ l e. let z : _≡_ {A = ℕ} 0 1 = cc in absurd (omega arith))

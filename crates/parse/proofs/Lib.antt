@@ -1,0 +1,3 @@
+pub mod Table
+pub mod Classes
+pub mod Suffixes

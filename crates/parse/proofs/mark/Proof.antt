@@ -1,0 +1,17 @@
+-- `parse::mark` meets its contract.
+-- Assumes nothing.
+use borrow.Author.Needs.{needs}
+use Rattle.parse.proofs.mark.Statement.{statement}
+use Rattle.parse.proofs.mark.Tie as tie
+
+is-dec-requires : tie.Need-is-dec-requires
+is-dec-requires c κs = search needs
+
+returns : tie.Need-returns
+returns c = (search needs, rw (← c .before .is-dec .ensures, c .if1 .taken))
+
+returns-2 : tie.Need-returns-2
+returns-2 c = (search needs, rw (← c .before .is-dec .ensures, c .if1 .left))
+
+pub mark-spec : {M : Type 1} → statement M
+mark-spec = tie.close (tie.spec is-dec-requires returns returns-2)

@@ -1,0 +1,27 @@
+-- The class of a byte, as document 01 has it (From bytes to a meaning, Bytes).
+-- Assumes nothing.
+use Prim.Native.Nat.{ℕ, _-_, _<_}
+use mathlib.Core.Path.{_≡_}
+use mathlib.Core.Bool.{Bool, cond, _&&_, _||_}
+use mathlib.Core.List.{List}
+use lib.Dec.{leb, ltb, eqb}
+use lib.ListN.{getD}
+
+-- from a to e, both included
+abbrev pub within : ℕ → ℕ → ℕ → Bool
+within a e b = leb a b && leb b e
+
+-- 01: "hex digit value 0 to 15; 16 `_`; 17 other ASCII letter; 18 space, tab, LF; 19 other ASCII; 20 above 127"
+unfoldable pub classOf : ℕ → ℕ
+classOf b =
+    cond (within 48 57 b) (b - 48)
+    (cond (within 97 102 b) (b - 87)
+    (cond (within 65 70 b) (b - 55)
+    (cond (eqb b 95) 16
+    (cond (within 97 122 b || within 65 90 b) 17
+    (cond (eqb b 32 || (eqb b 9 || eqb b 10)) 18
+    (cond (ltb b 128) 19 20))))))
+
+-- 01: "One table of 256 entries classes every byte"
+abbrev pub Classes : List ℕ → Type 0
+Classes t = (b : ℕ) → b < 256 → getD t b 0 ≡ classOf b

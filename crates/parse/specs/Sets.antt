@@ -1,0 +1,46 @@
+-- Sets of bytes that are told by class. They take the place of litrs's digit closures and character tests.
+-- Assumes nothing.
+use Prim.Native.Nat.{ℕ}
+use mathlib.Core.Bool.{Bool, cond, _||_}
+use mathlib.Core.List.{List}
+use lib.Dec.{ltb, eqb}
+use lib.ListN.{getD}
+use Rattle.parse.specs.Class.{classOf}
+use Rattle.parse.specs.declared.ClassSet.{ClassSet}
+use Rattle.parse.specs.declared.ClassSet.the-variants.{Digits, SuffixRest, Blanks}
+use Rattle.parse.specs.declared.HexDigit.{HexDigit}
+use Rattle.parse.specs.declared.HexDigit.the-variants.{Value, NotHex}
+
+-- which classes a set has: the digits below a base and `_` (litrs's is_valid_digit); ASCII letters, digits, `_` and all above 127
+-- (01, Suffix and digits: "a later ASCII character other than letter, digit or `_` is 39. Non-ASCII always passes"); space, tab and
+-- LF (01, Escapes: a dropped line break drops "all following spaces, tabs and LFs")
+abbrev pub inClass : ClassSet → ℕ → Bool
+inClass (Digits base) c = eqb c 16 || ltb c base
+inClass SuffixRest c = eqb c 20 || ltb c 18
+inClass Blanks c = eqb c 18
+
+unfoldable pub digit : ℕ → ℕ → Bool
+digit base b = inClass (Digits base) (classOf b)
+
+unfoldable pub suffixRest : ℕ → Bool
+suffixRest b = inClass SuffixRest (classOf b)
+
+unfoldable pub blank : ℕ → Bool
+blank b = inClass Blanks (classOf b)
+
+abbrev pub inSet : ClassSet → ℕ → Bool
+inSet (Digits base) = digit base
+inSet SuffixRest = suffixRest
+inSet Blanks = blank
+
+-- a decimal digit, `0` to `9`
+unfoldable pub decimal : ℕ → Bool
+decimal b = ltb (classOf b) 10
+
+-- litrs's hex_digit_value
+unfoldable pub hexDigitOf : ℕ → HexDigit
+hexDigitOf b = cond (ltb (classOf b) 16) (Value (classOf b)) NotHex
+
+-- `e` or `E` stands at an offset (01, Integers: "a leading e or E"; Floats: an exponent's first byte)
+unfoldable pub startsE : List ℕ → ℕ → Bool
+startsE s at = eqb (getD s at 0) 101 || eqb (getD s at 0) 69

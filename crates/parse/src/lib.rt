@@ -1,0 +1,455 @@
+// The class of each byte, the scans of digits and suffixes, and the check of a suffix.
+use err::ParseErrorKind;
+ghost use mathlib.Core.Path.{_≡_};
+ghost use mathlib.Core.Bool.{cond};
+ghost use Prim.Native.Nat.{_+_, _≤_};
+ghost use lib.ListN.{length, drop};
+ghost use Rattle.scan.specs.Run.{run, outs};
+ghost use Rattle.parse.specs.Class.{classOf, within, Classes};
+ghost use Rattle.parse.specs.Sets.{digit, decimal, inSet, inClass, hexDigitOf, startsE};
+ghost use Rattle.parse.specs.Suffix.{suffixFault, suffixStart, faultOf};
+
+// The class of each byte: hex digit value 0 to 15; 16 `_`; 17 other ASCII letter; 18 space, tab, LF; 19 other ASCII;
+// 20 above 127.
+const CLASSES: [u8; 256] = [
+    19,
+    19,
+    19,
+    19,
+    19,
+    19,
+    19,
+    19,
+    19,
+    18,
+    18,
+    19,
+    19,
+    19,
+    19,
+    19,
+    19,
+    19,
+    19,
+    19,
+    19,
+    19,
+    19,
+    19,
+    19,
+    19,
+    19,
+    19,
+    19,
+    19,
+    19,
+    19,
+    18,
+    19,
+    19,
+    19,
+    19,
+    19,
+    19,
+    19,
+    19,
+    19,
+    19,
+    19,
+    19,
+    19,
+    19,
+    19,
+    0,
+    1,
+    2,
+    3,
+    4,
+    5,
+    6,
+    7,
+    8,
+    9,
+    19,
+    19,
+    19,
+    19,
+    19,
+    19,
+    19,
+    10,
+    11,
+    12,
+    13,
+    14,
+    15,
+    17,
+    17,
+    17,
+    17,
+    17,
+    17,
+    17,
+    17,
+    17,
+    17,
+    17,
+    17,
+    17,
+    17,
+    17,
+    17,
+    17,
+    17,
+    17,
+    17,
+    19,
+    19,
+    19,
+    19,
+    16,
+    19,
+    10,
+    11,
+    12,
+    13,
+    14,
+    15,
+    17,
+    17,
+    17,
+    17,
+    17,
+    17,
+    17,
+    17,
+    17,
+    17,
+    17,
+    17,
+    17,
+    17,
+    17,
+    17,
+    17,
+    17,
+    17,
+    17,
+    19,
+    19,
+    19,
+    19,
+    19,
+    20,
+    20,
+    20,
+    20,
+    20,
+    20,
+    20,
+    20,
+    20,
+    20,
+    20,
+    20,
+    20,
+    20,
+    20,
+    20,
+    20,
+    20,
+    20,
+    20,
+    20,
+    20,
+    20,
+    20,
+    20,
+    20,
+    20,
+    20,
+    20,
+    20,
+    20,
+    20,
+    20,
+    20,
+    20,
+    20,
+    20,
+    20,
+    20,
+    20,
+    20,
+    20,
+    20,
+    20,
+    20,
+    20,
+    20,
+    20,
+    20,
+    20,
+    20,
+    20,
+    20,
+    20,
+    20,
+    20,
+    20,
+    20,
+    20,
+    20,
+    20,
+    20,
+    20,
+    20,
+    20,
+    20,
+    20,
+    20,
+    20,
+    20,
+    20,
+    20,
+    20,
+    20,
+    20,
+    20,
+    20,
+    20,
+    20,
+    20,
+    20,
+    20,
+    20,
+    20,
+    20,
+    20,
+    20,
+    20,
+    20,
+    20,
+    20,
+    20,
+    20,
+    20,
+    20,
+    20,
+    20,
+    20,
+    20,
+    20,
+    20,
+    20,
+    20,
+    20,
+    20,
+    20,
+    20,
+    20,
+    20,
+    20,
+    20,
+    20,
+    20,
+    20,
+    20,
+    20,
+    20,
+    20,
+    20,
+    20,
+    20,
+    20,
+    20,
+    20,
+    20,
+    20,
+    20,
+    20,
+];
+
+pub fn class_of(b: u8) -> u8
+    ensures { λ r. ⌜ r ≡ classOf b ⌝ }
+{
+    CLASSES[b as usize]
+}
+
+// The class of a byte by a copy of the table, which a scan makes once.
+fn class_in(classes: &[u8; 256], b: u8) -> u8
+    requires { ⌜ Classes (now classes) ⌝ }
+    ensures { λ r. ⌜ r ≡ classOf b ⌝ }
+{
+    classes[b as usize]
+}
+
+// A set of bytes that a scan passes over: the digits below a base and `_`; what may follow in a suffix; what a dropped line break drops.
+pub enum ClassSet {
+    Digits(u8),
+    SuffixRest,
+    Blanks,
+}
+
+// Whether a class is one of the set's.
+fn is_in(class: u8, set: ClassSet) -> bool
+    ensures { λ r. ⌜ r ≡ inClass set class ⌝ }
+{
+    match set {
+        ClassSet::Digits(base) => if class == 16 { true } else { class < base },
+        ClassSet::SuffixRest => if class == 20 { true } else { class < 18 },
+        ClassSet::Blanks => class == 18,
+    }
+}
+
+// How many bytes at the front are in the set.
+pub fn run_len(s: &[u8], set: ClassSet) -> usize
+    ensures { λ r. ⌜ r ≡ run (inSet set) (now (s .entry)) ⌝ }
+{
+    if s.len() == 0 {
+        return 0;
+    }
+    let classes = CLASSES;
+    let mut i = 0;
+    while i < s.len() {
+        if !is_in(class_in(&classes, s[i]), set) {
+            return i;
+        }
+        i += 1;
+    }
+    i
+}
+
+// A decimal digit or `_`, by comparisons: a block with these has no branch and no table.
+fn is_dec(b: u8) -> bool
+    ensures { λ r. ⌜ r ≡ digit 10 b ⌝ }
+{
+    if b == b'_' {
+        return true;
+    }
+    if b < b'0' {
+        return false;
+    }
+    b <= b'9'
+}
+
+fn mark(b: u8) -> u8
+    ensures { λ r. ⌜ (r ≤ 1) × (r ≡ cond (digit 10 b) 0 1) ⌝ }
+{
+    if is_dec(b) { 0 } else { 1 }
+}
+
+// How many bytes are neither digits nor `_`. With no exit on the way and a sum of one byte the compiler makes vectors of it.
+fn marks(s: &[u8]) -> u8
+    requires { ⌜ length (now s) ≤ 255 ⌝ }
+    ensures { λ r. ⌜ r ≡ outs (digit 10) (now (s .entry)) ⌝ }
+{
+    let mut n: u8 = 0;
+    let mut i = 0;
+    while i < s.len() {
+        n += mark(s[i]);
+        i += 1;
+    }
+    n
+}
+
+fn dec_end(s: &[u8], from: usize) -> usize
+    requires { ⌜ from ≤ length (now s) ⌝ }
+    ensures { λ r. ⌜ r ≡ from + run (digit 10) (drop from (now (s .entry))) ⌝ }
+{
+    let mut i = from;
+    while i < s.len() {
+        if !is_dec(s[i]) {
+            return i;
+        }
+        i += 1;
+    }
+    i
+}
+
+// The index of the first byte that is neither a decimal digit nor `_`, or the length: by blocks while there are 64 bytes, then
+// byte by byte.
+pub fn end_dec_digits(s: &[u8]) -> usize
+    ensures { λ r. ⌜ r ≡ run (digit 10) (now (s .entry)) ⌝ }
+{
+    let mut i = 0;
+    while 64 <= s.len() - i {
+        let e = i + 64;
+        if marks(&s[i..e]) != 0 {
+            return dec_end(s, i);
+        }
+        i = e;
+    }
+    dec_end(s, i)
+}
+
+// A hex digit's value, or that a byte is none.
+pub enum HexDigit {
+    Value(u8),
+    NotHex,
+}
+
+pub fn hex_digit_value(digit: u8) -> HexDigit
+    ensures { λ r. ⌜ r ≡ hexDigitOf digit ⌝ }
+{
+    let class = class_of(digit);
+    if class < 16 {
+        HexDigit::Value(class)
+    } else {
+        HexDigit::NotHex
+    }
+}
+
+pub fn is_decimal(b: u8) -> bool
+    ensures { λ r. ⌜ r ≡ decimal b ⌝ }
+{
+    class_of(b) < 10
+}
+
+// Whether `e` or `E` stands at an offset.
+pub fn has_e(s: &[u8], at: usize) -> bool
+    ensures { λ r. ⌜ r ≡ startsE (now (s .entry)) at ⌝ }
+{
+    let b = scan::byte_at(s, at);
+    if b == b'e' { true } else { b == b'E' }
+}
+
+// What a check of a suffix finds.
+pub enum Suffix {
+    Good,
+    Bad(ParseErrorKind),
+}
+
+// A letter, `_` or a byte above 127.
+fn starts_suffix(b: u8) -> bool
+    ensures { λ r. ⌜ r ≡ suffixStart b ⌝ }
+{
+    let class = class_of(b);
+    if class < 10 {
+        return false;
+    }
+    is_in(class, ClassSet::SuffixRest)
+}
+
+pub fn check_suffix(s: &[u8]) -> Suffix
+    ensures { λ r. ⌜ faultOf r ≡ suffixFault (now (s .entry)) ⌝ }
+{
+    if s.len() == 0 {
+        return Suffix::Good;
+    }
+    let first = s[0];
+    if first == b'_' {
+        if s.len() == 1 {
+            return Suffix::Bad(ParseErrorKind::InvalidSuffix);
+        }
+    }
+    if !starts_suffix(first) {
+        return Suffix::Bad(ParseErrorKind::UnexpectedChar);
+    }
+    let rest = &s[1..];
+    if run_len(rest, ClassSet::SuffixRest) == rest.len() {
+        Suffix::Good
+    } else {
+        Suffix::Bad(ParseErrorKind::InvalidSuffix)
+    }
+}
