@@ -1,0 +1,103 @@
+-- The test `isUtf8` holds exactly of the texts that are UTF-8.
+-- Assumes nothing.
+use mathlib.Core.Path.{_≡_, refl, sym, ap, _∙_, subst}
+use mathlib.Core.Logic.{_↔_}
+use mathlib.Core.Bool.{Bool, true, false}
+use mathlib.Core.List.{List, [], _∷_, _++_, append-assoc}
+use Prim.Native.Nat.{ℕ, _<_, zero, suc, _+_, _-_, _≤_}
+use native.Mathlib.Omega.{arith}
+use native.Mathlib.Nat.{not-suc-le-zero}
+use lib.ListN.{drop-of-length-le, getD, length, drop, length-append, length-drop}
+use lib.Seq.{drop-at}
+use Rattle.scan.proofs.Cases.{clash}
+use Rattle.utf8.specs.Utf8.{Scalar, encode, Utf8, Boundary, LastChar}
+use Rattle.utf8.specs.Decode.{decode}
+use Rattle.utf8.specs.Valid.{charsWithin, isUtf8}
+use Rattle.utf8.specs.declared.Decoded.{Decoded}
+use Rattle.utf8.specs.declared.Decoded.the-variants.{Char, Bad}
+use Rattle.utf8.proofs.Laws.{encode-length, Found, decode-found}
+use Rattle.utf8.proofs.At.{found-utf8, bad-utf8}
+use Rattle.utf8.proofs.Text.{utf8-all-ascii, utf8-nil, utf8-one, utf8-char, utf8-rest, utf8-bad, utf8-append}
+
+within-right : (k : ℕ) (t : List ℕ) → length t ≤ k → (charsWithin k t ≡ true) ↔ Utf8 t
+unfolding charsWithin
+within-right zero [] h = (λ e. utf8-nil, λ u. refl)
+within-right zero (a ∷ r) h = absurd (not-suc-le-zero h)
+within-right (suc k) [] h = (λ e. utf8-nil, λ u. refl)
+within-right (suc k) (a ∷ r) h = go (decode (a ∷ r)) refl (λ n p. within-right k (drop n (a ∷ r)) (omega (arith, length-drop n (a ∷ r))))
+  where
+    go : (d : Decoded) → decode (a ∷ r) ≡ d → ((n : ℕ) → 0 < n → (charsWithin k (drop n (a ∷ r)) ≡ true) ↔ Utf8 (drop n (a ∷ r)))
+        → (elim d [ Char s n ↦ charsWithin k (drop n (a ∷ r)) | Bad ↦ false ] ≡ true) ↔ Utf8 (a ∷ r)
+    go Bad e f = (λ x. clash x refl, λ u. absurd (let z = ap length (utf8-bad (a ∷ r) u e) in omega arith))
+    go (Char s n) e f =
+        let g : Found (a ∷ r) (Char s n) = subst (λ (d : Decoded). Found (a ∷ r) d) e (decode-found (a ∷ r)) in
+        let p = encode-length s in
+        let step = f n (omega (arith, g .2)) in (
+          (λ x. subst (λ (l : List ℕ). Utf8 l) (g .1) (utf8-char s (drop n (a ∷ r)) (g .0) (step .0 x))),
+          (λ u. step .1 (utf8-rest s (drop n (a ∷ r)) (g .0) (subst (λ (l : List ℕ). Utf8 l) (sym (g .1)) u))),
+        )
+
+pub isUtf8-right : (t : List ℕ) → (isUtf8 t ≡ true) ↔ Utf8 t
+unfolding isUtf8
+isUtf8-right t = within-right (length t) t (omega arith)
+
+-- an answer that is right as `isUtf8` is right is `isUtf8`'s
+pub same-answer : (b : Bool) (t : List ℕ) → (b ≡ true) ↔ Utf8 t → b ≡ isUtf8 t
+same-answer b t r = go b (isUtf8 t) r (isUtf8-right t)
+  where
+    go : (b c : Bool) → (b ≡ true) ↔ Utf8 t → (c ≡ true) ↔ Utf8 t → b ≡ c
+    go true true f g = refl
+    go true false f g = sym (g .1 (f .0 refl))
+    go false true f g = f .1 (g .0 refl)
+    go false false f g = refl
+
+-- ---- the test along a text
+
+pub isUtf8-end : (t : List ℕ) (at : ℕ) → length t ≤ at → isUtf8 (drop at t) ≡ true
+isUtf8-end t at h = rw (drop-of-length-le t h) (isUtf8-right [] .1 utf8-nil)
+
+pub isUtf8-char : (t : List ℕ) (at s n : ℕ) → decode (drop at t) ≡ Char s n → isUtf8 (drop (at + n) t) ≡ isUtf8 (drop at t)
+isUtf8-char t at s n e =
+    let f = found-utf8 t at s n e in
+    let r = isUtf8-right (drop (at + n) t) in
+    same-answer _ _ (λ x. f .0 (r .0 x), λ u. r .1 (f .1 u))
+
+pub isUtf8-bad : (t : List ℕ) (at : ℕ) → at < length t → decode (drop at t) ≡ Bad → isUtf8 (drop at t) ≡ false
+isUtf8-bad t at h e = sym (same-answer false _ (λ x. clash x refl, λ u. absurd (bad-utf8 t at h e u)))
+
+pub isUtf8-ascii : (t : List ℕ) → ((k : ℕ) → k < length t → getD t k 0 < 0x80) → isUtf8 t ≡ true
+isUtf8-ascii t h = isUtf8-right t .1 (utf8-all-ascii t h)
+
+-- ---- characters inside a text
+
+-- inside a UTF-8 text there is a character at each boundary, and a boundary behind it
+pub decode-inside : (t : List ℕ) (n : ℕ) → Boundary t n → n < length t
+    → (s : ℕ) × (k : ℕ) × (decode (drop n t) ≡ Char s k) × Scalar s × (0 < k) × Boundary t (n + k)
+decode-inside t n (p, q, u, v, e, l) h = go (decode q) refl
+  where
+    rest : drop n t ≡ q
+    rest = ap (drop n) (sym e) ∙ drop-at p q n l
+
+    go : (d : Decoded) → decode q ≡ d → (s : ℕ) × (k : ℕ) × (decode (drop n t) ≡ Char s k) × Scalar s × (0 < k) × Boundary t (n + k)
+    go Bad x = absurd (let z = ap length (utf8-bad q v x) in omega (arith, ap length rest, length-drop n t))
+    go (Char s k) x =
+        let g : Found q (Char s k) = subst (λ (d : Decoded). Found q d) x (decode-found q) in (
+          s,
+          k,
+          ap decode rest ∙ x,
+          g .0,
+          (let p = encode-length s in omega (arith, g .2)),
+          (
+            p ++ encode s,
+            drop k q,
+            utf8-append p (encode s) u (utf8-one s (g .0)),
+            utf8-rest s (drop k q) (g .0) (subst (λ (y : List ℕ). Utf8 y) (sym (g .1)) v),
+            append-assoc p (encode s) (drop k q) ∙ ap (λ (y : List ℕ). p ++ y) (g .1) ∙ e,
+            length-append p (encode s) ∙ omega (arith, g .2),
+          ),
+        )
+
+-- a text without its last character is UTF-8
+pub last-cut : (t : List ℕ) (m : ℕ) → LastChar t m → Boundary t (length t - m)
+last-cut t m (p, s, u, y, e, l) =
+    (p, encode s, u, utf8-one s y, e, omega (arith, length-append p (encode s), ap length e))

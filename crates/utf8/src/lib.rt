@@ -1,0 +1,240 @@
+// UTF-8, as RFC 3629 has it: lengths, characters, texts.
+ghost use mathlib.Core.Path.{_≡_};
+ghost use Prim.Native.Nat.{ℕ, _≤_, _<_};
+ghost use lib.ListN.{length, getD, drop};
+ghost use Rattle.buffer.specs.Buffer.{Wrote};
+ghost use Rattle.utf8.specs.Utf8.{Scalar, encode};
+ghost use Rattle.utf8.specs.Decode.{lengthFrom, decode2, decode3, decode4, decode};
+ghost use Rattle.utf8.specs.Valid.{isUtf8};
+ghost use Rattle.utf8.specs.Cut.{tail, isBoundary, lastLen};
+
+// The character at a place of a text, with its length in bytes, or none.
+pub enum Decoded {
+    Char { scalar: u32, len: usize },
+    Bad,
+}
+
+// How many bytes the character has that starts with first: the count of its leading ones. 0 where no character starts so.
+pub fn char_len(first: u8) -> usize
+    ensures { λ r. ⌜ r ≡ lengthFrom first ⌝ }
+{
+    let ones = u8::leading_zeros(!first);
+    if ones == 0 {
+        return 1;
+    }
+    if ones == 1 {
+        return 0;
+    }
+    if 4 < ones {
+        return 0;
+    }
+    ones as usize
+}
+
+// Whether the byte continues a character: 10xxxxxx.
+pub fn is_tail(b: u8) -> bool
+    ensures { λ r. ⌜ r ≡ tail b ⌝ }
+{
+    b / 64 == 2
+}
+
+fn two(a: u8, b: u8) -> Decoded
+    ensures { λ r. ⌜ r ≡ decode2 a b ⌝ }
+{
+    if b / 64 != 2 {
+        return Decoded::Bad;
+    }
+    let scalar = (a % 32) as u32 * 64 + (b % 64) as u32;
+    if scalar < 0x80 {
+        return Decoded::Bad;
+    }
+    Decoded::Char { scalar, len: 2 }
+}
+
+fn three(a: u8, b: u8, c: u8) -> Decoded
+    ensures { λ r. ⌜ r ≡ decode3 a b c ⌝ }
+{
+    if b / 64 != 2 {
+        return Decoded::Bad;
+    }
+    if c / 64 != 2 {
+        return Decoded::Bad;
+    }
+    let scalar = (a % 16) as u32 * 4096 + (b % 64) as u32 * 64 + (c % 64) as u32;
+    if scalar < 0x800 {
+        return Decoded::Bad;
+    }
+    if scalar < 0xD800 {
+        return Decoded::Char { scalar, len: 3 };
+    }
+    if scalar < 0xE000 {
+        return Decoded::Bad;
+    }
+    Decoded::Char { scalar, len: 3 }
+}
+
+fn four(a: u8, b: u8, c: u8, d: u8) -> Decoded
+    ensures { λ r. ⌜ r ≡ decode4 a b c d ⌝ }
+{
+    if b / 64 != 2 {
+        return Decoded::Bad;
+    }
+    if c / 64 != 2 {
+        return Decoded::Bad;
+    }
+    if d / 64 != 2 {
+        return Decoded::Bad;
+    }
+    let scalar = (a % 8) as u32 * 262144
+        + (b % 64) as u32 * 4096
+        + (c % 64) as u32 * 64
+        + (d % 64) as u32;
+    if scalar < 0x10000 {
+        return Decoded::Bad;
+    }
+    if scalar < 0x110000 {
+        return Decoded::Char { scalar, len: 4 };
+    }
+    Decoded::Bad
+}
+
+// The character that starts at an offset of a text.
+pub fn decode_char(text: &[u8], at: usize) -> Decoded
+    ensures { λ r. ⌜ r ≡ decode (drop at (now (text .entry))) ⌝ }
+{
+    if text.len() <= at {
+        return Decoded::Bad;
+    }
+    let first = text[at];
+    let n = char_len(first);
+    if n == 1 {
+        return Decoded::Char {
+            scalar: wide(first),
+            len: 1,
+        };
+    }
+    if text.len() - at < n {
+        return Decoded::Bad;
+    }
+    if n == 2 {
+        return two(first, text[at + 1]);
+    }
+    if n == 3 {
+        return three(first, text[at + 1], text[at + 2]);
+    }
+    if n == 4 {
+        return four(first, text[at + 1], text[at + 2], text[at + 3]);
+    }
+    Decoded::Bad
+}
+
+fn wide(b: u8) -> u32
+    ensures { λ r. ⌜ r ≡ b ⌝ }
+{
+    b as u32
+}
+
+// The highest byte. With no exit on the way the compiler makes vectors of it.
+fn highest(s: &[u8]) -> u8
+    ensures { λ r. ⌜ ((k : ℕ) → k < length (now (s .entry)) → getD (now (s .entry)) k 0 ≤ r) ⌝ }
+{
+    let mut m: u8 = 0;
+    let mut i = 0;
+    while i < s.len() {
+        m = larger(m, s[i]);
+        i += 1;
+    }
+    m
+}
+
+fn larger(a: u8, b: u8) -> u8
+    ensures { λ r. ⌜ (a ≤ r) × (b ≤ r) ⌝ }
+{
+    if a < b { b } else { a }
+}
+
+// Whether a text is UTF-8. A text with no byte above 127 is, and needs no second look.
+pub fn is_utf8(text: &[u8]) -> bool
+    ensures { λ r. ⌜ r ≡ isUtf8 (now (text .entry)) ⌝ }
+{
+    if highest(text) < 128 {
+        return true;
+    }
+    let mut at = 0;
+    while at < text.len() {
+        let d = decode_char(text, at);
+        let Decoded::Char { scalar: _, len } = d else {
+            return false;
+        };
+        at += len;
+    }
+    true
+}
+
+// How many bytes a character has.
+pub fn encoded_len(scalar: u32) -> usize
+    ensures { λ r. ⌜ r ≡ length (encode scalar) ⌝ }
+{
+    if scalar < 0x80 {
+        return 1;
+    }
+    if scalar < 0x800 {
+        return 2;
+    }
+    if scalar < 0x10000 {
+        return 3;
+    }
+    4
+}
+
+// A character's encoding is written to the front of out.
+pub fn encode_char(out: &mut [u8], scalar: u32) -> usize
+    requires { ⌜ Scalar scalar × (length (encode scalar) ≤ length (now out)) ⌝ }
+    ensures { λ r. ⌜ Wrote (encode scalar) r (now (out .entry)) (now (out .exit)) ⌝ }
+{
+    if scalar < 0x80 {
+        return buffer::put_one(out, scalar as u8);
+    }
+    if scalar < 0x800 {
+        return buffer::put_two(out, (0xC0 + scalar / 64) as u8, (0x80 + scalar % 64) as u8);
+    }
+    if scalar < 0x10000 {
+        return buffer::put_three(
+            out,
+            (0xE0 + scalar / 4096) as u8,
+            (0x80 + scalar / 64 % 64) as u8,
+            (0x80 + scalar % 64) as u8,
+        );
+    }
+    buffer::put_four(
+        out,
+        (0xF0 + scalar / 262144) as u8,
+        (0x80 + scalar / 4096 % 64) as u8,
+        (0x80 + scalar / 64 % 64) as u8,
+        (0x80 + scalar % 64) as u8,
+    )
+}
+
+// Whether an offset is a character boundary: the end, or an offset where no byte 10xxxxxx stands.
+pub fn is_boundary(text: &[u8], at: usize) -> bool
+    ensures { λ r. ⌜ r ≡ isBoundary (now (text .entry)) at ⌝ }
+{
+    if text.len() <= at {
+        return text.len() == at;
+    }
+    !is_tail(text[at])
+}
+
+// How many bytes the last character has: those from the last byte that is not 10xxxxxx to the end.
+pub fn last_len(text: &[u8]) -> usize
+    ensures { λ r. ⌜ r ≡ lastLen (now (text .entry)) ⌝ }
+{
+    let mut start = text.len();
+    while 0 < start {
+        start -= 1;
+        if !is_tail(text[start]) {
+            return text.len() - start;
+        }
+    }
+    text.len()
+}
