@@ -23,6 +23,12 @@ pub record Wrote (piece : List ℕ) (n : ℕ) (before after : List ℕ) : Type 0
 abbrev pub roomFor : ℕ → ℕ → ℕ → Room
 roomFor len most have = cond (leb len most) (cond (leb len have) Enough TooSmall) TooLong
 
+-- document 01's number of each case that is refused; 0 where there is room
+abbrev pub roomNumber : Room → ℕ
+roomNumber Enough = 0
+roomNumber TooLong = 47
+roomNumber TooSmall = 48
+
 -- the whole buffer after the answer: the piece written over its front, or, refused, exactly what it held
 abbrev pub bufferAfter : Room → List ℕ → List ℕ → List ℕ
 bufferAfter Enough piece buf = over piece buf

@@ -8,7 +8,7 @@ use native.Mathlib.Omega.{arith}
 use lib.Dec.{T, leb, ltb, eqb}
 use borrow.Author.Tests.{ltb-true, leb-true, eqb-true, lt-ltb, le-ltb, le-leb, lt-leb, ne-eqb, not-true}
 use Rattle.scan.proofs.Cases.{by-lt, cond-lt, clash}
-use Rattle.scan.proofs.Tables.{everyBelow, same, agreed}
+use Rattle.scan.proofs.Tables.{everyBelow, alike, agreed}
 use Rattle.parse.specs.Class.{classOf, within}
 use Rattle.parse.specs.Sets.{inClass, inSet, digit, suffixRest, blank, decimal, hexDigitOf}
 use Rattle.parse.specs.Suffix.{suffixStart}
@@ -44,7 +44,7 @@ class-above b h =
     rw (within-above 48 57 b (omega arith), within-above 97 102 b (omega arith), within-above 65 70 b (omega arith), ne-eqb b 95 (omega arith), within-above 97 122 b (omega arith), within-above 65 90 b (omega arith), ne-eqb b 32 (omega arith), ne-eqb b 9 (omega arith), ne-eqb b 10 (omega arith), le-ltb b 128 h)
 
 -- two tests that agree below 128 and from 128 on are one
-everywhere : (f g : ℕ → Bool) → T (everyBelow (λ b. same (f b) (g b)) 128) → ((b : ℕ) → 128 ≤ b → f b ≡ g b) → (b : ℕ) → f b ≡ g b
+everywhere : (f g : ℕ → Bool) → T (everyBelow (λ b. alike (f b) (g b)) 128) → ((b : ℕ) → 128 ≤ b → f b ≡ g b) → (b : ℕ) → f b ≡ g b
 everywhere f g t h b = by-lt b 128 (agreed f g 128 t b) (h b)
 
 pub class-underscore : classOf 95 ≡ 16

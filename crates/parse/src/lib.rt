@@ -321,7 +321,7 @@ pub fn run_len(s: &[u8], set: ClassSet) -> usize
 }
 
 // A decimal digit or `_`, by comparisons: a block with these has no branch and no table.
-fn is_dec(b: u8) -> bool
+fn is_dec_or_underscore(b: u8) -> bool
     ensures { λ r. ⌜ r ≡ digit 10 b ⌝ }
 {
     if b == b'_' {
@@ -336,7 +336,7 @@ fn is_dec(b: u8) -> bool
 fn mark(b: u8) -> u8
     ensures { λ r. ⌜ (r ≤ 1) × (r ≡ cond (digit 10 b) 0 1) ⌝ }
 {
-    if is_dec(b) { 0 } else { 1 }
+    if is_dec_or_underscore(b) { 0 } else { 1 }
 }
 
 // How many bytes are neither digits nor `_`. With no exit on the way and a sum of one byte the compiler makes vectors of it.
@@ -359,7 +359,7 @@ fn dec_end(s: &[u8], from: usize) -> usize
 {
     let mut i = from;
     while i < s.len() {
-        if !is_dec(s[i]) {
+        if !is_dec_or_underscore(s[i]) {
             return i;
         }
         i += 1;

@@ -31,19 +31,19 @@ below f (suc n) t k h =
     by-lt k n (λ l. below f n (both-right (f n) (everyBelow f n) t) k l)
     (λ l. let e : n ≡ k = omega arith in subst (λ (m : ℕ). T (f m)) e (both-left (f n) (everyBelow f n) t))
 
-abbrev pub same : Bool → Bool → Bool
-same true c = c
-same false c = not c
+abbrev pub alike : Bool → Bool → Bool
+alike true c = c
+alike false c = not c
 
-same-eq : (a c : Bool) → T (same a c) → a ≡ c
-same-eq true true t = refl
-same-eq true false t = absurd t
-same-eq false true t = absurd t
-same-eq false false t = refl
+alike-eq : (a c : Bool) → T (alike a c) → a ≡ c
+alike-eq true true t = refl
+alike-eq true false t = absurd t
+alike-eq false true t = absurd t
+alike-eq false false t = refl
 
 -- two tests that agree below n
-pub agreed : (f g : ℕ → Bool) (n : ℕ) → T (everyBelow (λ k. same (f k) (g k)) n) → (k : ℕ) → k < n → f k ≡ g k
-agreed f g n t k h = same-eq (f k) (g k) (below (λ k. same (f k) (g k)) n t k h)
+pub agreed : (f g : ℕ → Bool) (n : ℕ) → T (everyBelow (λ k. alike (f k) (g k)) n) → (k : ℕ) → k < n → f k ≡ g k
+agreed f g n t k h = alike-eq (f k) (g k) (below (λ k. alike (f k) (g k)) n t k h)
 
 -- ---- every entry of a table
 

@@ -101,17 +101,20 @@ last-behind [] f l e t = rw (eq-eqb (run tail l) (length l) (run-tails l t))
 last-behind (x ∷ p) f l e t =
     rw (run-short tail (p ++ (f ∷ l)) (length p) (simp length-append (omega arith)) (rw (getD-append-seam p f l 0) e)) (last-behind p f l e t)
 
--- the last character of a UTF-8 text has that many bytes
-pub last-right : (t : List ℕ) → Utf8 t → 0 < length t → LastChar t (lastLen t)
+-- the last character has that many bytes and no others
+pub last-is : (t : List ℕ) (m : ℕ) → LastChar t m → lastLen t ≡ m
 unfolding tail
-last-right t u h = go (last-char t u h)
-  where
-    go : (m : ℕ) × LastChar t m → LastChar t (lastLen t)
-    go (m, (p, s, v, y, e, l)) =
-        let z = shape s y in
-        let is : p ++ (z .0 ∷ z .1) ≡ t = rw (z .2) at e in
-        let n : lastLen t ≡ m = ap lastLen (sym is) ∙ last-behind p (z .0) (z .1) (ne-eqb _ 2 (z .3)) (z .4) ∙ sym (ap length (z .2)) ∙ l in
-        (p, s, v, y, e, l ∙ sym n)
+last-is t m (p, s, v, y, e, l) =
+    let z = shape s y in
+    let is : p ++ (z .0 ∷ z .1) ≡ t = rw (z .2) at e in
+    ap lastLen (sym is) ∙ last-behind p (z .0) (z .1) (ne-eqb _ 2 (z .3)) (z .4) ∙ sym (ap length (z .2)) ∙ l
+
+pub last-right : (t : List ℕ) → Utf8 t → 0 < length t → LastChar t (lastLen t)
+last-right t u h = let c = last-char t u h in subst (λ (n : ℕ). LastChar t n) (sym (last-is t (c .0) (c .1))) (c .1)
+
+-- THE LAW: in a UTF-8 text that is not empty, the last character has n bytes exactly where `lastLen` says so
+pub last-exact : (t : List ℕ) (n : ℕ) → Utf8 t → 0 < length t → (lastLen t ≡ n) ↔ LastChar t n
+last-exact t n u h = (λ e. subst (λ (m : ℕ). LastChar t m) e (last-right t u h), last-is t n)
 
 -- and cut off it leaves a UTF-8 text
 pub front-boundary : (t : List ℕ) → Utf8 t → 0 < length t → Boundary t (length t - lastLen t)

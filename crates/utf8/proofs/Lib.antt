@@ -6,3 +6,4 @@ pub mod Valid
 pub mod Cuts
 pub mod Aligned
 pub mod Examples
+pub mod HighBytes

@@ -12,8 +12,8 @@ use Rattle.utf8.specs.declared.Decoded.the-variants.{Char, Bad}
 unfoldable pub leadingOnes : ℕ → ℕ
 leadingOnes b = leadingZeros 8 (255 - b)
 
--- RFC 3629, section 3, the table: a first byte 0xxxxxxx, 110xxxxx, 1110xxxx, 11110xxx says that the character has 1, 2, 3, 4 bytes;
--- no character starts with another byte: 0
+-- RFC 3629, section 3, the table: a first byte 0xxxxxxx, 110xxxxx, 1110xxxx, 11110xxx is of a row of 1, 2, 3, 4 bytes;
+-- another byte is of no row: 0
 unfoldable pub lengthFrom : ℕ → ℕ
 lengthFrom b =
     cond (ltb b 0b10000000) 1

@@ -5,7 +5,7 @@ ghost use lib.ListN.{length, getD, drop};
 ghost use Rattle.buffer.specs.Buffer.{Wrote};
 ghost use Rattle.utf8.specs.Utf8.{Scalar, encode};
 ghost use Rattle.utf8.specs.Decode.{lengthFrom, decode2, decode3, decode4, decode};
-ghost use Rattle.utf8.specs.Valid.{isUtf8};
+ghost use Rattle.utf8.specs.Valid.{isUtf8, largerOf, highestFrom};
 ghost use Rattle.utf8.specs.Cut.{tail, isBoundary, lastLen};
 
 // The character at a place of a text, with its length in bytes, or none.
@@ -14,7 +14,8 @@ pub enum Decoded {
     Bad,
 }
 
-// How many bytes the character has that starts with first: the count of its leading ones. 0 where no character starts so.
+// How many bytes a character has by its first byte's leading ones: one byte for none, else as many as there are, two to four; 0 for
+// another count.
 pub fn char_len(first: u8) -> usize
     ensures { λ r. ⌜ r ≡ lengthFrom first ⌝ }
 {
@@ -136,7 +137,7 @@ fn wide(b: u8) -> u32
 
 // The highest byte. With no exit on the way the compiler makes vectors of it.
 fn highest(s: &[u8]) -> u8
-    ensures { λ r. ⌜ ((k : ℕ) → k < length (now (s .entry)) → getD (now (s .entry)) k 0 ≤ r) ⌝ }
+    ensures { λ r. ⌜ r ≡ highestFrom 0 (now (s .entry)) ⌝ }
 {
     let mut m: u8 = 0;
     let mut i = 0;
@@ -148,7 +149,7 @@ fn highest(s: &[u8]) -> u8
 }
 
 fn larger(a: u8, b: u8) -> u8
-    ensures { λ r. ⌜ (a ≤ r) × (b ≤ r) ⌝ }
+    ensures { λ r. ⌜ r ≡ largerOf a b ⌝ }
 {
     if a < b { b } else { a }
 }

@@ -21,16 +21,16 @@ abbrev μ-loop : tie.MeasureT-loop
 loop-holds : tie.Need-loop-holds Inv-loop μ-loop
 loop-holds c = (search needs, refl)
 
-shared-slice-read-is-dec : tie.Need-shared-slice-read-is-dec Inv-loop μ-loop
-shared-slice-read-is-dec c = search needs
+shared-slice-read-is-dec-or-underscore : tie.Need-shared-slice-read-is-dec-or-underscore Inv-loop μ-loop
+shared-slice-read-is-dec-or-underscore c = search needs
 
-is-dec-requires : tie.Need-is-dec-requires Inv-loop μ-loop
-is-dec-requires c κs = search needs
+is-dec-or-underscore-requires : tie.Need-is-dec-or-underscore-requires Inv-loop μ-loop
+is-dec-or-underscore-requires c κs = search needs
 
 returns : tie.Need-returns Inv-loop μ-loop
 returns c =
     let b = c .before .before .before in
-    sym (run-stop _ _ _ (b .loop-test .taken) (sym (c .before .is-dec .ensures) ∙ not-true _ (c .if1 .taken))) ∙ b .before .loop .inv .1
+    sym (run-stop _ _ _ (b .loop-test .taken) (sym (c .before .is-dec-or-underscore .ensures) ∙ not-true _ (c .if1 .taken))) ∙ b .before .loop .inv .1
 
 add-i : tie.Need-add-i Inv-loop μ-loop
 add-i c = search needs
@@ -41,7 +41,7 @@ loop-less c = search needs
 loop-again : tie.Need-loop-again Inv-loop μ-loop
 loop-again c =
     let b = c .before .before .before in
-    (search needs, sym (run-more _ _ _ (b .loop-test .taken) (sym (c .before .is-dec .ensures) ∙ not-false _ (c .if1 .left))) ∙ b .before .loop .inv .1)
+    (search needs, sym (run-more _ _ _ (b .loop-test .taken) (sym (c .before .is-dec-or-underscore .ensures) ∙ not-false _ (c .if1 .left))) ∙ b .before .loop .inv .1)
 
 returns-2 : tie.Need-returns-2 Inv-loop μ-loop
 returns-2 c = sym (run-end _ _ _ (c .loop-test .left)) ∙ c .before .loop .inv .1
@@ -53,8 +53,8 @@ dec-end-spec =
     Inv-loop
     μ-loop
     loop-holds
-    shared-slice-read-is-dec
-    is-dec-requires
+    shared-slice-read-is-dec-or-underscore
+    is-dec-or-underscore-requires
     returns
     add-i
     loop-less

@@ -1,19 +1,22 @@
-use Prim.Native.Nat.{ℕ, _≤_, _<_, _-_}
-use native.Mathlib.Omega.{arith}
-use lib.ListN.{length, getD}
-use borrow.Author.Count.{below-more}
+-- `utf8::highest` meets its contract.
+-- Assumes nothing.
+use Prim.Native.Nat.{_≤_, _-_}
+use mathlib.Core.Path.{_≡_, sym, _∙_}
+use lib.ListN.{length, drop}
 use borrow.Author.Needs.{needs}
+use Rattle.utf8.specs.Valid.{highestFrom}
+use Rattle.utf8.proofs.HighBytes.{highest-more, highest-end}
 use Rattle.utf8.proofs.highest.Statement.{statement}
 use Rattle.utf8.proofs.highest.Tie as tie
 
 abbrev Inv-loop : tie.InvT-loop
-Inv-loop s m₀ i₀ m i = (i ≤ length s) × ((k : ℕ) → k < i → getD s k 0 ≤ m)
+Inv-loop s m₀ i₀ m i = (i ≤ length s) × (highestFrom m (drop i s) ≡ highestFrom 0 s)
 
 abbrev μ-loop : tie.MeasureT-loop
 μ-loop s m₀ i₀ m i = length s - i
 
 loop-holds : tie.Need-loop-holds Inv-loop μ-loop
-loop-holds c = (search needs, λ k l. absurd (omega arith))
+loop-holds c = search needs
 
 shared-slice-read-larger : tie.Need-shared-slice-read-larger Inv-loop μ-loop
 shared-slice-read-larger c = search needs
@@ -30,10 +33,10 @@ loop-less c = search needs
 loop-again : tie.Need-loop-again Inv-loop μ-loop
 loop-again c =
     let a = c .before .before .before in
-    (search needs, below-more (λ k. getD (a .before .before .args .s .now) k 0 ≤ c .larger .result) (a .loop .i) (λ k l. omega (arith, a .loop .inv .1 k l, c .larger .ensures .0)) (c .larger .ensures .1))
+    (search needs, rw (c .larger .ensures) (sym (highest-more (a .loop .m) (a .before .before .args .s .now) (a .loop .i) (search needs)) ∙ a .loop .inv .1))
 
 returns : tie.Need-returns Inv-loop μ-loop
-returns c = λ k l. c .before .loop .inv .1 k (omega (arith, c .loop-test .left))
+returns c = let b = c .before in sym (highest-end (b .loop .m) (b .before .before .args .s .now) (b .loop .i) (c .loop-test .left)) ∙ b .loop .inv .1
 
 pub highest-spec : {M : Type 1} → statement M
 highest-spec =

@@ -8,6 +8,7 @@ use borrow.Author.Needs.{needs}
 use Rattle.utf8.specs.Valid.{isUtf8}
 use Rattle.utf8.proofs.At.{found-bounds}
 use Rattle.utf8.proofs.Valid.{isUtf8-end, isUtf8-char, isUtf8-bad, isUtf8-ascii}
+use Rattle.utf8.proofs.HighBytes.{highest-above}
 use Rattle.utf8.proofs.is_utf8.Statement.{statement}
 use Rattle.utf8.proofs.is_utf8.Tie as tie
 
@@ -22,7 +23,7 @@ highest-requires : tie.Need-highest-requires Inv-loop μ-loop
 highest-requires c κs = search needs
 
 returns : tie.Need-returns Inv-loop μ-loop
-returns c = sym (isUtf8-ascii _ (λ k l. omega (arith, c .before .highest .ensures k l, c .if1 .taken)))
+returns c = sym (isUtf8-ascii _ (λ k l. omega (arith, highest-above 0 (c .before .before .before .args .text .now) k l, c .before .highest .ensures, c .if1 .taken)))
 
 loop-holds : tie.Need-loop-holds Inv-loop μ-loop
 loop-holds c = (search needs, refl)
