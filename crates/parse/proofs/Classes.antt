@@ -10,7 +10,7 @@ use borrow.Author.Tests.{ltb-true, leb-true, eqb-true, lt-ltb, le-ltb, le-leb, l
 use Rattle.scan.proofs.Cases.{by-lt, cond-lt, clash}
 use Rattle.scan.proofs.Tables.{everyBelow, alike, agreed}
 use Rattle.parse.specs.Class.{classOf, within}
-use Rattle.parse.specs.Sets.{inClass, inSet, digit, suffixRest, blank, decimal, hexDigitOf}
+use Rattle.parse.specs.Sets.{inClass, inSet, digit, suffixRest, blank, decDigit, hexDigitOf}
 use Rattle.parse.specs.Suffix.{suffixStart}
 use Rattle.parse.specs.declared.ClassSet.{ClassSet}
 use Rattle.parse.specs.declared.ClassSet.the-variants.{Digits, SuffixRest, Blanks}
@@ -68,19 +68,19 @@ set-class Blanks b = refl
 
 -- ---- decimal digits
 
-pub decimal-is : (b : ℕ) → decimal b ≡ within 48 57 b
-unfolding decimal classOf
-decimal-is = everywhere decimal (within 48 57) tt (λ b h. rw (class-above b h, within-above 48 57 b (omega arith)))
+pub dec-digit-is : (b : ℕ) → decDigit b ≡ within 48 57 b
+unfolding decDigit classOf
+dec-digit-is = everywhere decDigit (within 48 57) tt (λ b h. rw (class-above b h, within-above 48 57 b (omega arith)))
 
-pub decimal-ends : (b : ℕ) → decimal b ≡ true → (48 ≤ b) × (b ≤ 57)
-decimal-ends b t = within-ends 48 57 b (sym (decimal-is b) ∙ t)
+pub dec-digit-ends : (b : ℕ) → decDigit b ≡ true → (48 ≤ b) × (b ≤ 57)
+dec-digit-ends b t = within-ends 48 57 b (sym (dec-digit-is b) ∙ t)
 
-pub decimal-within : (b : ℕ) → 48 ≤ b → b ≤ 57 → decimal b ≡ true
-decimal-within b h g = decimal-is b ∙ within-is 48 57 b h g
+pub dec-digit-within : (b : ℕ) → 48 ≤ b → b ≤ 57 → decDigit b ≡ true
+dec-digit-within b h g = dec-digit-is b ∙ within-is 48 57 b h g
 
 pub class-decimal : (b : ℕ) → classOf b < 10 → classOf b ≡ b - 48
-unfolding decimal classOf
-class-decimal b h = rw (sym (decimal-is b) ∙ lt-ltb (classOf b) 10 h)
+unfolding decDigit classOf
+class-decimal b h = rw (sym (dec-digit-is b) ∙ lt-ltb (classOf b) 10 h)
 
 -- ---- digits and `_`
 
@@ -98,16 +98,16 @@ digit-cases base b t =
     ⊎-map (λ e. eqb-true b 95 (sym (class-underscore-is b) ∙ e)) (λ e. ltb-true (classOf b) base e)
     (either (eqb (classOf b) 16) (ltb (classOf b) base) t)
 
-pub digit-decimal : (base b : ℕ) → 10 ≤ base → decimal b ≡ true → digit base b ≡ true
-unfolding decimal
+pub digit-decimal : (base b : ℕ) → 10 ≤ base → decDigit b ≡ true → digit base b ≡ true
+unfolding decDigit
 digit-decimal base b h t = digit-below base b (omega (arith, ltb-true (classOf b) 10 t))
 
-pub digit-ten : (b : ℕ) → digit 10 b ≡ (eqb b 95 || decimal b)
-unfolding digit decimal
+pub digit-ten : (b : ℕ) → digit 10 b ≡ (eqb b 95 || decDigit b)
+unfolding digit decDigit
 digit-ten b = rw class-underscore-is
 
-pub digit-ten-cases : (b : ℕ) → digit 10 b ≡ true → (b ≡ 95) ⊎ (decimal b ≡ true)
-digit-ten-cases b t = ⊎-map (eqb-true b 95) (λ e. e) (either (eqb b 95) (decimal b) (sym (digit-ten b) ∙ t))
+pub digit-ten-cases : (b : ℕ) → digit 10 b ≡ true → (b ≡ 95) ⊎ (decDigit b ≡ true)
+digit-ten-cases b t = ⊎-map (eqb-true b 95) (λ e. e) (either (eqb b 95) (decDigit b) (sym (digit-ten b) ∙ t))
 
 -- ---- suffixes
 
@@ -121,13 +121,13 @@ start-is =
     everywhere suffixStart (λ b. eqb b 95 || (within 97 122 b || (within 65 90 b || leb 128 b))) tt
     (λ b h. rw (start-above b h, le-leb 128 b h, or-true, or-true, or-true))
 
-pub rest-is : (b : ℕ) → suffixRest b ≡ (suffixStart b || decimal b)
-unfolding suffixStart suffixRest decimal classOf
-rest-is = everywhere suffixRest (λ b. suffixStart b || decimal b) tt (λ b h. rw (class-above b h))
+pub rest-is : (b : ℕ) → suffixRest b ≡ (suffixStart b || decDigit b)
+unfolding suffixStart suffixRest decDigit classOf
+rest-is = everywhere suffixRest (λ b. suffixStart b || decDigit b) tt (λ b h. rw (class-above b h))
 
-pub start-not-decimal : (b : ℕ) → suffixStart b ≡ true → decimal b ≡ false
-unfolding suffixStart decimal
-start-not-decimal b t = not-true (decimal b) (both (not (decimal b)) (suffixRest b) t .0)
+pub start-not-decimal : (b : ℕ) → suffixStart b ≡ true → decDigit b ≡ false
+unfolding suffixStart decDigit
+start-not-decimal b t = not-true (decDigit b) (both (not (decDigit b)) (suffixRest b) t .0)
 
 -- a run of decimal digits and `_` goes into a suffix only by `_`
 pub start-digit : (b : ℕ) → suffixStart b ≡ true → digit 10 b ≡ eqb b 95

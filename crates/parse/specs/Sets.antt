@@ -34,8 +34,8 @@ inSet SuffixRest = suffixRest
 inSet Blanks = blank
 
 -- a decimal digit, `0` to `9`
-unfoldable pub decimal : ℕ → Bool
-decimal b = ltb (classOf b) 10
+unfoldable pub decDigit : ℕ → Bool
+decDigit b = ltb (classOf b) 10
 
 -- litrs's hex_digit_value
 unfoldable pub hexDigitOf : ℕ → HexDigit

@@ -6,7 +6,7 @@ ghost use Prim.Native.Nat.{_+_, _≤_};
 ghost use lib.ListN.{length, drop};
 ghost use Rattle.scan.specs.Run.{run, outs};
 ghost use Rattle.parse.specs.Class.{classOf, within, Classes};
-ghost use Rattle.parse.specs.Sets.{digit, decimal, inSet, inClass, hexDigitOf, startsE};
+ghost use Rattle.parse.specs.Sets.{digit, decDigit, inSet, inClass, hexDigitOf, startsE};
 ghost use Rattle.parse.specs.Suffix.{suffixFault, suffixStart, faultOf};
 
 // The class of each byte: hex digit value 0 to 15; 16 `_`; 17 other ASCII letter; 18 space, tab, LF; 19 other ASCII;
@@ -401,7 +401,7 @@ pub fn hex_digit_value(digit: u8) -> HexDigit
 }
 
 pub fn is_decimal(b: u8) -> bool
-    ensures { λ r. ⌜ r ≡ decimal b ⌝ }
+    ensures { λ r. ⌜ r ≡ decDigit b ⌝ }
 {
     class_of(b) < 10
 }

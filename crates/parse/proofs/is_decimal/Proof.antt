@@ -1,7 +1,7 @@
 -- `parse::is_decimal` meets its contract.
 -- Assumes nothing.
 use borrow.Author.Needs.{needs}
-use Rattle.parse.specs.Sets.{decimal}
+use Rattle.parse.specs.Sets.{decDigit}
 use Rattle.parse.proofs.is_decimal.Statement.{statement}
 use Rattle.parse.proofs.is_decimal.Tie as tie
 
@@ -9,7 +9,7 @@ class-of-requires : tie.Need-class-of-requires
 class-of-requires c κs = search needs
 
 returns : tie.Need-returns
-unfolding decimal
+unfolding decDigit
 returns c = rw (← c .class-of .ensures)
 
 pub is-decimal-spec : {M : Type 1} → statement M

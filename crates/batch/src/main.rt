@@ -1,0 +1,285 @@
+// Answers a batch of records from standard input (docs/BATCH.md): one line for each.
+use err::Hashes;
+use err::ParseErrorKind;
+use err::Reading;
+use err::Span;
+use err::StringLit;
+use integer::IntegerValue;
+use libc::STDIN_FILENO;
+use libc::STDOUT_FILENO;
+use literal::Checked;
+ghost use mathlib.Core.Path.{_≡_};
+ghost use Prim.Native.Nat.{_≤_, _<_};
+ghost use lib.ListN.{length};
+
+fn wide(x: u8) -> usize
+    ensures { λ r. ⌜ (r ≡ x) × (r < 256) ⌝ }
+{
+    x as usize
+}
+
+// Some bytes behind the first `at` of a line. What does not fit is left out: every line lends enough.
+fn add(line: &mut [u8], at: usize, piece: &[u8]) -> usize
+    requires { ⌜ at ≤ length (now line) ⌝ }
+    ensures { λ r. ⌜ r ≤ length (now (line .exit)) ⌝ }
+{
+    if line.len() - at < piece.len() {
+        return at;
+    }
+    at + buffer::put_bytes(&mut line[at..], piece)
+}
+
+// A space and a number.
+fn add_number(line: &mut [u8], at: usize, n: u64) -> usize
+    requires { ⌜ at ≤ length (now line) ⌝ }
+    ensures { λ r. ⌜ r ≤ length (now (line .exit)) ⌝ }
+{
+    let from = add(line, at, b" ");
+    let k = buffer::decimal_len(n);
+    if line.len() - from < k {
+        return from;
+    }
+    buffer::put_decimal(&mut line[from..], n);
+    from + k
+}
+
+// A space and an offset.
+fn add_offset(line: &mut [u8], at: usize, n: usize) -> usize
+    requires { ⌜ at ≤ length (now line) ⌝ }
+    ensures { λ r. ⌜ r ≤ length (now (line .exit)) ⌝ }
+{
+    add_number(line, at, n as u64)
+}
+
+// `no`, the number and the span.
+fn add_refusal(line: &mut [u8], kind: ParseErrorKind, span: Span) -> usize
+    ensures { λ r. ⌜ r ≤ length (now (line .exit)) ⌝ }
+{
+    let start = add(line, 0, b"no");
+    let at = add_number(line, start, err::number(kind) as u64);
+    match span {
+        Span::Nowhere => add(line, at, b" - -"),
+        Span::Between(from, to) => {
+            let next = add_offset(line, at, from);
+            add_offset(line, next, to)
+        }
+    }
+}
+
+// `ok`, the kind and the start of the suffix.
+fn add_kind(line: &mut [u8], kind: u64, suffix: usize) -> usize
+    ensures { λ r. ⌜ r ≤ length (now (line .exit)) ⌝ }
+{
+    let start = add(line, 0, b"ok");
+    let at = add_number(line, start, kind);
+    add_offset(line, at, suffix)
+}
+
+fn truth(value: bool) -> u64
+    ensures { λ r. ⌜ r ≤ 1 ⌝ }
+{
+    if value { 1 } else { 0 }
+}
+
+// Hashes, `-` where it is not raw, and the length of the value.
+fn add_string(line: &mut [u8], kind: u64, lit: StringLit) -> usize
+    ensures { λ r. ⌜ r ≤ length (now (line .exit)) ⌝ }
+{
+    let at = add_kind(line, kind, lit.start_suffix);
+    let hashes = lit.hashes;
+    match hashes {
+        Hashes::NotRaw => {
+            let next = add(line, at, b" -");
+            add_offset(line, next, lit.value_len)
+        }
+        Hashes::Raw(n) => {
+            let next = add_offset(line, at, wide(n));
+            add_offset(line, next, lit.value_len)
+        }
+    }
+}
+
+fn add_reading(line: &mut [u8], r: Reading) -> usize
+    ensures { λ r. ⌜ r ≤ length (now (line .exit)) ⌝ }
+{
+    match r {
+        Reading::Refused(kind, span) => add_refusal(line, kind, span),
+        Reading::Bool(l) => {
+            let at = add_kind(line, 1, l.end);
+            add_number(line, at, truth(l.value))
+        }
+        Reading::Integer(l) => {
+            let at = add_kind(line, 2, l.end_main_part);
+            let base = l.base;
+            let next = add_offset(line, at, wide(base.value()));
+            let last = add_offset(line, next, l.start_main_part);
+            add_offset(line, last, l.end_main_part)
+        }
+        Reading::Float(l) => {
+            let at = add_kind(line, 3, l.end_number_part);
+            let next = add_offset(line, at, l.end_integer_part);
+            let last = add_offset(line, next, l.end_fractional_part);
+            add_offset(line, last, l.end_number_part)
+        }
+        Reading::Char(l) => {
+            let at = add_kind(line, 4, l.start_suffix);
+            add_number(line, at, l.value as u64)
+        }
+        Reading::String(l) => add_string(line, 5, l),
+        Reading::Byte(l) => {
+            let at = add_kind(line, 6, l.start_suffix);
+            add_offset(line, at, wide(l.value))
+        }
+        Reading::ByteString(l) => add_string(line, 7, l),
+        Reading::CString(l) => add_string(line, 8, l),
+    }
+}
+
+// The first bytes of a line are written, and its end.
+fn write_line(line: &mut [u8], at: usize)
+    requires { ⌜ at ≤ length (now line) ⌝ }
+    ensures { λ r. ⌜ length (now (line .exit)) ≡ length (now (line .entry)) ⌝ }
+{
+    let n = add(line, at, b"\n");
+    io::write_all(STDOUT_FILENO, &line[0..n]);
+}
+
+// The line of a reading.
+fn answer_reading(line: &mut [u8], r: Reading)
+    ensures { λ r. ⌜ length (now (line .exit)) ≡ length (now (line .entry)) ⌝ }
+{
+    let n = add_reading(line, r);
+    write_line(line, n);
+}
+
+// `ok` and a number.
+fn answer_number(line: &mut [u8], n: u64)
+    ensures { λ r. ⌜ length (now (line .exit)) ≡ length (now (line .entry)) ⌝ }
+{
+    let start = add(line, 0, b"ok");
+    let at = add_number(line, start, n);
+    write_line(line, at);
+}
+
+// The line of an integer's value.
+fn answer_value(line: &mut [u8], v: IntegerValue)
+    ensures { λ r. ⌜ length (now (line .exit)) ≡ length (now (line .entry)) ⌝ }
+{
+    match v {
+        IntegerValue::Given(n) => answer_number(line, n),
+        IntegerValue::Refused(kind, span) => {
+            let at = add_refusal(line, kind, span);
+            write_line(line, at);
+        }
+    }
+}
+
+// A line of words.
+fn answer_words(line: &mut [u8], words: &[u8])
+    ensures { λ r. ⌜ length (now (line .exit)) ≡ length (now (line .entry)) ⌝ }
+{
+    let at = add(line, 0, words);
+    write_line(line, at);
+}
+
+// The reading of a checked text by entry 1, 2 or 3.
+fn number_entry(line: &mut [u8], code: u8, text: &[u8])
+    ensures { λ r. ⌜ length (now (line .exit)) ≡ length (now (line .entry)) ⌝ }
+{
+    match code {
+        1 => answer_reading(line, boolean::parse(text)),
+        2 => answer_reading(line, integer::parse(text)),
+        _ => answer_reading(line, float::parse(text)),
+    }
+}
+
+fn checked_entry(line: &mut [u8], code: u8, text: &[u8])
+    ensures { λ r. ⌜ length (now (line .exit)) ≡ length (now (line .entry)) ⌝ }
+{
+    let checked = literal::check_text(text);
+    match checked {
+        Checked::Good => number_entry(line, code, text),
+        Checked::Bad(kind) => answer_reading(line, err::perr_nowhere(kind)),
+    }
+}
+
+// Reading by entry code. Entry 0 and entries 4 to 8 are not there yet.
+fn reading(line: &mut [u8], code: u8, text: &[u8])
+    ensures { λ r. ⌜ length (now (line .exit)) ≡ length (now (line .entry)) ⌝ }
+{
+    match code {
+        1..=3 => checked_entry(line, code, text),
+        0 => answer_words(line, b"bad operation"),
+        4..=8 => answer_words(line, b"bad operation"),
+        _ => answer_reading(line, err::perr_nowhere(ParseErrorKind::BadCode)),
+    }
+}
+
+// One record's line.
+fn operation(line: &mut [u8], letter: u8, code: u8, text: &[u8])
+    ensures { λ r. ⌜ length (now (line .exit)) ≡ length (now (line .entry)) ⌝ }
+{
+    match letter {
+        b'R' => reading(line, code, text),
+        b'V' => answer_value(line, literal::value(code as u64, text)),
+        b'I' => answer_number(line, literal::integer_from_suffix(text) as u64),
+        b'F' => answer_number(line, literal::float_from_suffix(text) as u64),
+        _ => answer_words(line, b"bad operation"),
+    }
+}
+
+// Four bytes, the least first.
+fn number_at(head: &[u8; 10], at: usize) -> usize
+    requires { ⌜ at ≤ 6 ⌝ }
+    ensures { λ r. ⌜ r < 4294967296 ⌝ }
+{
+    wide(head[at])
+        + 256 * wide(head[at + 1])
+        + 65536 * wide(head[at + 2])
+        + 16777216 * wide(head[at + 3])
+}
+
+// One record, answered: whether there may be another.
+fn record(line: &mut [u8], text: &mut [u8]) -> bool
+    ensures { λ r. ⌜ length (now (line .exit)) ≡ length (now (line .entry)) ⌝ }
+{
+    let mut head = [0u8; 10];
+    let got = io::read_full(STDIN_FILENO, &mut head);
+    if got == 0 {
+        return false;
+    }
+    let lent = number_at(&head, 2);
+    let n = number_at(&head, 6);
+    if got < 10 {
+        answer_words(line, b"bad record");
+        return false;
+    }
+    if 65600 < lent {
+        answer_words(line, b"bad record");
+        return false;
+    }
+    if text.len() < n {
+        answer_words(line, b"bad record");
+        return false;
+    }
+    let back = io::read_full(STDIN_FILENO, &mut text[0..n]);
+    if back < n {
+        answer_words(line, b"bad record");
+        return false;
+    }
+    operation(line, head[0], head[1], &text[0..n]);
+    true
+}
+
+fn records(line: &mut [u8], text: &mut [u8]) {
+    let mut turns = u64::MAX;
+    while turns > 0 && record(line, text) {
+        turns -= 1;
+    }
+}
+
+fn main() {
+    let mut line = [0u8; 256];
+    let mut text = [0u8; 65600];
+    records(&mut line, &mut text);
+}

@@ -1,0 +1,2 @@
+pub mod Float
+pub mod Parts

@@ -1,0 +1,153 @@
+// Float literals: integer part, fraction, exponent and suffix.
+use err::FloatLit;
+use err::ParseErrorKind;
+use err::Reading;
+use err::Span;
+use parse::Suffix;
+use scan::Byte;
+use scan::ByteSet;
+ghost use mathlib.Core.Path.{_≡_};
+ghost use Prim.Native.Nat.{_≤_, _<_};
+ghost use lib.ListN.{length};
+ghost use Rattle.err.specs.Reading.{outcomeOf};
+ghost use Rattle.float.specs.Float.{parsedOf, notInteger, badFraction, signEnd, noDigit, afterNumber, afterFraction, afterInteger, floatRead};
+
+// A float literal, or why a text is none.
+pub enum Parsed {
+    Lit(FloatLit),
+    Refused(ParseErrorKind, Span),
+}
+
+// A literal with neither fraction nor exponent is an integer's.
+fn not_integer(lit: FloatLit) -> Parsed
+    ensures { λ r. ⌜ parsedOf r ≡ notInteger (lit .«end_integer_part») (lit .«end_fractional_part») (lit .«end_number_part») ⌝ }
+{
+    if lit.end_integer_part == lit.end_number_part {
+        return Parsed::Refused(ParseErrorKind::UnexpectedIntegerLit, Span::Nowhere);
+    }
+    Parsed::Lit(lit)
+}
+
+// Behind the number: the suffix.
+fn after_number(text: &[u8], lit: FloatLit) -> Parsed
+    requires { ⌜ lit .«end_number_part» ≤ length (now text) ⌝ }
+    ensures { λ r. ⌜ parsedOf r ≡ afterNumber (now (text .entry)) (lit .«end_integer_part») (lit .«end_fractional_part») (lit .«end_number_part») ⌝ }
+{
+    let end = lit.end_number_part;
+    let checked = parse::check_suffix(&text[end..]);
+    let Suffix::Bad(kind) = checked else {
+        return not_integer(lit);
+    };
+    Parsed::Refused(kind, Span::Between(end, text.len()))
+}
+
+// Where the exponent's digits start: behind `e` and its sign, if it has one.
+fn sign_end(text: &[u8], at: usize) -> usize
+    requires { ⌜ at < length (now text) ⌝ }
+    ensures { λ r. ⌜ (r ≡ signEnd (now (text .entry)) at) × (r ≤ length (now (text .entry))) ⌝ }
+{
+    let next = at + 1;
+    let sign = scan::byte_at(text, next);
+    if sign == b'-' {
+        return next + 1;
+    }
+    if sign == b'+' {
+        return next + 1;
+    }
+    next
+}
+
+// Whether there is no digit, only `_`, from one offset to another.
+fn no_digit(text: &[u8], from: usize, end: usize) -> bool
+    requires { ⌜ (from ≤ end) × (end ≤ length (now text)) ⌝ }
+    ensures { λ r. ⌜ r ≡ noDigit (now (text .entry)) from end ⌝ }
+{
+    scan::run_len(&text[from..end], ByteSet::Only(b'_')) == end - from
+}
+
+// Behind the fraction: an exponent or none.
+fn after_fraction(text: &[u8], i: usize, f: usize) -> Parsed
+    requires { ⌜ f ≤ length (now text) ⌝ }
+    ensures { λ r. ⌜ parsedOf r ≡ afterFraction (now (text .entry)) i f ⌝ }
+{
+    if !parse::has_e(text, f) {
+        return after_number(
+            text,
+            FloatLit {
+                end_integer_part: i,
+                end_fractional_part: f,
+                end_number_part: f,
+            },
+        );
+    }
+    let from = sign_end(text, f);
+    let end = from + parse::end_dec_digits(&text[from..]);
+    if no_digit(text, from, end) {
+        return Parsed::Refused(ParseErrorKind::NoExponentDigits, Span::Between(f, end));
+    }
+    after_number(
+        text,
+        FloatLit {
+            end_integer_part: i,
+            end_fractional_part: f,
+            end_number_part: end,
+        },
+    )
+}
+
+// Whether what stands behind the period may not: `_`, or, where no digit follows, anything.
+fn bad_fraction(text: &[u8], from: usize, end: usize) -> bool
+    requires { ⌜ from ≤ length (now text) ⌝ }
+    ensures { λ r. ⌜ r ≡ badFraction (now (text .entry)) from end ⌝ }
+{
+    if scan::byte_at(text, from) == b'_' {
+        return true;
+    }
+    if end != from {
+        return false;
+    }
+    from < text.len()
+}
+
+// Behind the integer part: a fraction or none.
+fn after_integer(text: &[u8], i: usize) -> Parsed
+    requires { ⌜ i ≤ length (now text) ⌝ }
+    ensures { λ r. ⌜ parsedOf r ≡ afterInteger (now (text .entry)) i ⌝ }
+{
+    if scan::byte_at(text, i) != b'.' {
+        return after_fraction(text, i, i);
+    }
+    let from = i + 1;
+    let end = from + parse::end_dec_digits(&text[from..]);
+    if bad_fraction(text, from, end) {
+        return Parsed::Refused(
+            ParseErrorKind::UnexpectedChar,
+            Span::Between(from, from + 1),
+        );
+    }
+    after_fraction(text, i, end)
+}
+
+// The float literal that a text is, or why it is none.
+pub fn parse_lit(text: &[u8]) -> Parsed
+    ensures { λ r. ⌜ parsedOf r ≡ floatRead (now (text .entry)) ⌝ }
+{
+    let first = scan::get(text, 0);
+    let Byte::At(b) = first else {
+        return Parsed::Refused(ParseErrorKind::Empty, Span::Nowhere);
+    };
+    if parse::is_decimal(b) {
+        return after_integer(text, parse::end_dec_digits(text));
+    }
+    Parsed::Refused(ParseErrorKind::DoesNotStartWithDigit, Span::Between(0, 1))
+}
+
+pub fn parse(text: &[u8]) -> Reading
+    ensures { λ r. ⌜ outcomeOf r ≡ floatRead (now (text .entry)) ⌝ }
+{
+    let parsed = parse_lit(text);
+    match parsed {
+        Parsed::Lit(lit) => Reading::Float(lit),
+        Parsed::Refused(kind, span) => Reading::Refused(kind, span),
+    }
+}

@@ -1,0 +1,86 @@
+-- `integer::check_end` meets its contract.
+-- Assumes nothing.
+use mathlib.Core.Path.{_≡_, ap, sym, _∙_}
+use lib.ListN.{getD, drop}
+use Rattle.err.specs.Numbers.{numberOf}
+use Rattle.err.proofs.Positive.{number-positive}
+use Rattle.scan.proofs.Parts.{part-to-end}
+use Rattle.parse.specs.Sets.{decDigit}
+use Rattle.parse.specs.Suffix.{suffixFault, faultOf}
+use Rattle.integer.proofs.Suffixed.{after-good, after-digit, after-fault}
+use borrow.Author.Needs.{needs}
+use Rattle.integer.proofs.check_end.Statement.{statement}
+use Rattle.integer.proofs.check_end.Tie as tie
+
+sub-check-suffix : tie.Need-sub-check-suffix
+sub-check-suffix c = search needs
+
+part-check-suffix-start : tie.Need-part-check-suffix-start
+part-check-suffix-start c = search needs
+
+part-check-suffix-end : tie.Need-part-check-suffix-end
+part-check-suffix-end c = search needs
+
+check-suffix-requires : tie.Need-check-suffix-requires
+check-suffix-requires c κs = search needs
+
+enum-known-checked : tie.Need-enum-known-checked
+enum-known-checked c = search needs
+
+enum-told : tie.Need-enum-told
+enum-told c = search needs
+
+-- the suffix's fault, as `check_suffix` found it
+fault : (c : tie.After-check-suffix) →
+    let a = c .before .before .before .args in
+    faultOf (c .check-suffix .result) ≡ suffixFault (drop (a .lit .«end_main_part») (a .text .now))
+fault c = c .check-suffix .ensures ∙ rw part-to-end
+
+returns : tie.Need-returns
+returns c = after-good _ _ _ (ap faultOf (sym (c .enum-told .given .1)) ∙ fault (c .before .before))
+
+byte-at-requires : tie.Need-byte-at-requires
+byte-at-requires c κs = search needs
+
+is-decimal-requires : tie.Need-is-decimal-requires
+is-decimal-requires c κs = search needs
+
+add-t13 : tie.Need-add-t13
+add-t13 c = search needs
+
+bad : (c : tie.After-checked) →
+    let a = c .before .before .before .before .before .args in
+    numberOf (c .checked .given .0 .0) ≡ suffixFault (drop (a .lit .«end_main_part») (a .text .now))
+bad c = ap faultOf (sym (c .checked .given .1)) ∙ fault (c .before .before)
+
+digit-at : (c : tie.After-is-decimal) →
+    let a = c .before .before .before .before .before .before .before .before .args in
+    c .is-decimal .result ≡ decDigit (getD (a .text .now) (a .lit .«end_main_part») 0)
+digit-at c = c .is-decimal .ensures ∙ ap decDigit (c .before .byte-at .ensures)
+
+returns-2 : tie.Need-returns-2
+returns-2 c =
+    let b = c .before .before .before .before in
+    after-digit _ _ _ _ (bad b) (number-positive (b .checked .given .0 .0)) (sym (digit-at (c .before)) ∙ c .if1 .taken)
+
+returns-3 : tie.Need-returns-3
+returns-3 c =
+    let b = c .before .before .before .before in
+    after-fault _ _ _ _ (bad b) (number-positive (b .checked .given .0 .0)) (sym (digit-at (c .before)) ∙ c .if1 .left)
+
+pub check-end-spec : {M : Type 1} → statement M
+check-end-spec =
+    tie.close
+    (tie.spec
+    sub-check-suffix
+    part-check-suffix-start
+    part-check-suffix-end
+    check-suffix-requires
+    enum-known-checked
+    enum-told
+    returns
+    byte-at-requires
+    is-decimal-requires
+    add-t13
+    returns-2
+    returns-3)

@@ -1,0 +1,31 @@
+-- What the value call answers: an integer's value at a type code (01, Integers).
+-- Assumes nothing.
+use Prim.Native.Nat.{ℕ}
+use mathlib.Core.Bool.{cond}
+use mathlib.Core.List.{List}
+use lib.Dec.{eqb}
+use Rattle.err.specs.Outcome.{none}
+use Rattle.integer.specs.Value.{Valued, withheld, integerValue}
+use Rattle.types.specs.Types.{integerCoded, largestOf}
+use Rattle.types.specs.declared.IntegerFound.{IntegerFound}
+use Rattle.types.specs.declared.IntegerFound.the-variants as found
+use Rattle.types.specs.declared.Largest.{Largest}
+use Rattle.types.specs.declared.Largest.the-variants as largest
+use Rattle.literal.specs.Checks.{textFault}
+
+-- 43 and 44, which have no span, then what entry 2's reading refuses, then 45
+unfoldable pub checkedValue : ℕ → List ℕ → Valued
+checkedValue most s = cond (eqb (textFault s) 0) (integerValue most s) (withheld (textFault s) none)
+
+-- the largest value that a type code stands for
+abbrev pub largestIn : IntegerFound → Largest
+largestIn (found.Type t) = largestOf t
+largestIn found.Nothing = largest.NoValues
+
+abbrev pub valueWithin : Largest → List ℕ → Valued
+valueWithin (largest.Value most) s = checkedValue most s
+valueWithin largest.NoValues s = withheld 42 none
+
+-- "type codes 1 to 4 and 7 to 10, all others 42", before anything else
+unfoldable pub valueAt : ℕ → List ℕ → Valued
+valueAt code s = valueWithin (largestIn (integerCoded code)) s
