@@ -1,12 +1,22 @@
 -- What a call comes to in document 01's numbers: a refusal with its span, or a reading.
 -- Assumes nothing.
-use Prim.Native.Nat.{ℕ}
+use Prim.Native.Nat.{ℕ, _+_, _≤_}
 use mathlib.Core.Bool.{Bool}
 
 -- 01: "a refusal carries a span that is either none or two offsets, the second excluded"
 pub data Place : Type 0 where
   none : Place
   between : ℕ → ℕ → Place
+
+-- a span counted from an offset before its text: litrs's `offset_span`
+abbrev pub shift : ℕ → Place → Place
+shift by none = none
+shift by (between a e) = between (a + by) (e + by)
+
+-- a span ends at most at m
+abbrev pub Ends : ℕ → Place → Type 0
+Ends m none = Unit {0}
+Ends m (between a e) = (a ≤ e) × (e ≤ m)
 
 -- 01, Quoted kinds: "hashes (or not raw)"
 pub data Rawness : Type 0 where

@@ -2,8 +2,9 @@
 ghost use mathlib.Core.Path.{_≡_};
 ghost use lib.ListN.{length};
 ghost use Rattle.err.specs.Numbers.{numberOf};
-ghost use Rattle.err.specs.Outcome.{refused, none, between};
-ghost use Rattle.err.specs.Reading.{baseOf, prefixOf, prefixBytes, outcomeOf};
+ghost use Prim.Native.Nat.{_-_};
+ghost use Rattle.err.specs.Outcome.{refused, none, between, shift, Ends};
+ghost use Rattle.err.specs.Reading.{placeOf, baseOf, prefixOf, prefixBytes, outcomeOf};
 
 // Where a refusal stands: nowhere, or from one offset to another, the second excluded.
 pub enum Span {
@@ -238,4 +239,15 @@ pub fn perr_nowhere(kind: ParseErrorKind) -> Reading
     ensures { λ r. ⌜ outcomeOf r ≡ refused (numberOf kind) none ⌝ }
 {
     Reading::Refused(kind, Span::Nowhere)
+}
+
+// A span counted from an offset before its text.
+pub fn offset_span(span: Span, by: usize) -> Span
+    requires { ⌜ Ends (18446744073709551615 - by) (placeOf span) ⌝ }
+    ensures { λ r. ⌜ placeOf r ≡ shift by (placeOf span) ⌝ }
+{
+    match span {
+        Span::Nowhere => Span::Nowhere,
+        Span::Between(from, to) => Span::Between(from + by, to + by),
+    }
 }

@@ -97,7 +97,6 @@ fn after_fraction(text: &[u8], i: usize, f: usize) -> Parsed
 
 // Whether what stands behind the period may not: `_`, or, where no digit follows, anything.
 fn bad_fraction(text: &[u8], from: usize, end: usize) -> bool
-    requires { ⌜ from ≤ length (now text) ⌝ }
     ensures { λ r. ⌜ r ≡ badFraction (now (text .entry)) from end ⌝ }
 {
     if scan::byte_at(text, from) == b'_' {

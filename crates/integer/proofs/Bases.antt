@@ -13,6 +13,7 @@ use Rattle.err.specs.declared.IntegerBase.{IntegerBase}
 use Rattle.err.specs.declared.IntegerBase.the-variants.{Binary, Octal, Decimal, Hexadecimal}
 use Rattle.scan.proofs.Cases.{cond-in}
 use Rattle.integer.specs.Integer.{baseAt, prefixLen}
+use Rattle.integer.specs.Parts.{Prefixed, dec, bin, oct, hex}
 
 pub base-short : (s : List ℕ) → length s < 2 → 10 ≡ baseAt s
 unfolding baseAt
@@ -34,3 +35,10 @@ prefix-len Binary = refl
 prefix-len Octal = refl
 prefix-len Decimal = refl
 prefix-len Hexadecimal = refl
+
+-- each base with its prefix, as `err` has them
+pub prefixed : (b : IntegerBase) → Prefixed (baseOf b) (prefixOf b)
+prefixed Binary = bin
+prefixed Octal = oct
+prefixed Decimal = dec
+prefixed Hexadecimal = hex

@@ -52,7 +52,7 @@ add-end : tie.Need-add-end
 add-end c = omega (arith, inside c)
 
 bad-fraction-requires : tie.Need-bad-fraction-requires
-bad-fraction-requires c κs = omega (arith, period (c .before .before))
+bad-fraction-requires c κs = search needs
 
 add-t14 : tie.Need-add-t14
 add-t14 c = search needs
