@@ -1,0 +1,38 @@
+-- Document 01's marked readings of quoted strings, and one text for each kind of piece, by computing.
+-- Assumes nothing.
+use mathlib.Core.Path.{_≡_, refl}
+use mathlib.Core.Bool.{true, false}
+use mathlib.Core.List.{[], _∷_}
+use Rattle.err.specs.Outcome.{none, between, raw}
+use Rattle.scan.specs.Sets.{except, only}
+use Rattle.parse.specs.Class.{classOf}
+use Rattle.parse.specs.Sets.{blank, suffixRest}
+use Rattle.parse.specs.Suffix.{suffixFault, faultFrom, suffixStart}
+use Rattle.utf8.specs.Utf8.{encode}
+use Rattle.utf8.specs.Cut.{tail, isBoundary}
+use Rattle.escape.specs.declared.Allowed.{Allowed}
+use Rattle.escape.specs.Escape.{letterOf, xByte, xEscape, isScalar, uScalar, badStart, uInner, uBraced, uEscape, escapeBy, escapeOf}
+use Rattle.body.specs.Step.{close, lineBreakOf, backslashOf, plainOf, stepOf, rawByte, rawStepOf}
+use Rattle.body.specs.Body.{bodyFrom, bodyBy, body}
+use Rattle.body.specs.Quote.{quoted, refused, suffixed, stringOf, rawFrom, rawAt, rawOf}
+
+abbrev string : Allowed
+string = record { unicode = true; «byte_escapes» = false; «allow_nul» = true }
+
+abbrev cString : Allowed
+cString = record { unicode = true; «byte_escapes» = true; «allow_nul» = false }
+
+-- `"\"` is 9 at 1-2, `"\x4"` is 9 at 1-4, `"\x4"u` is 10 at 1-5; and `c"\0"`, a body of four pieces, `r#""a"#`, `r##`
+pub record Marked : Type 0 where
+  pub lone : stringOf string 1 (34 ∷ 92 ∷ 34 ∷ []) ≡ refused 9 (between 1 2)
+  pub short : stringOf string 1 (34 ∷ 92 ∷ 120 ∷ 52 ∷ 34 ∷ []) ≡ refused 9 (between 1 4)
+  pub with-suffix : stringOf string 1 (34 ∷ 92 ∷ 120 ∷ 52 ∷ 34 ∷ 117 ∷ []) ≡ refused 10 (between 1 5)
+  pub nul : stringOf cString 2 (99 ∷ 34 ∷ 92 ∷ 48 ∷ 34 ∷ []) ≡ refused 35 (between 2 4)
+  pub pieces : body string (97 ∷ 92 ∷ 10 ∷ 32 ∷ 92 ∷ 117 ∷ 123 ∷ 69 ∷ 95 ∷ 57 ∷ 125 ∷ 34 ∷ [])
+      ≡ record { at = 11; value = 97 ∷ 195 ∷ 169 ∷ []; end = close }
+  pub inner-quote : rawOf string 1 (114 ∷ 35 ∷ 34 ∷ 34 ∷ 97 ∷ 34 ∷ 35 ∷ []) ≡ quoted (raw 1) 7 2
+  pub hashes : rawOf string 1 (114 ∷ 35 ∷ 35 ∷ []) ≡ refused 3 none
+
+pub marked : Marked
+unfolding classOf except only blank suffixRest suffixFault faultFrom suffixStart encode tail isBoundary letterOf xByte xEscape isScalar uScalar badStart uInner uBraced uEscape escapeBy escapeOf lineBreakOf backslashOf plainOf stepOf rawByte rawStepOf bodyFrom bodyBy suffixed stringOf rawFrom rawAt rawOf
+marked = record { lone = refl; short = refl; with-suffix = refl; nul = refl; pieces = refl; inner-quote = refl; hashes = refl }

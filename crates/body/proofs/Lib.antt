@@ -1,0 +1,11 @@
+pub mod Steps
+pub mod Within
+pub mod Bodies
+pub mod Runs
+pub mod Raws
+pub mod Values
+pub mod Strings
+pub mod Complete
+pub mod Sound
+pub mod Exact
+pub mod Examples

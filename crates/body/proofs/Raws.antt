@@ -1,0 +1,80 @@
+-- A raw body stands for its own bytes.
+-- Assumes nothing.
+use mathlib.Core.Path.{_≡_, refl, ap, sym, _∙_}
+use mathlib.Core.Bool.{not, _&&_}
+use mathlib.Core.List.{List, [], _∷_, _++_}
+use Prim.Native.Nat.{ℕ, _+_, _-_, _<_}
+use native.Mathlib.Omega.{arith}
+use lib.Dec.{eqb, ltb, leb}
+use lib.ListN.{length, getD, take, drop, length-drop}
+use lib.Seq.{take-add}
+use Rattle.scan.specs.Run.{run}
+use Rattle.scan.specs.Sets.{only}
+use Rattle.scan.proofs.Cases.{cond-in, cond-eq}
+use Rattle.escape.specs.Escape.{bytesOf}
+use Rattle.escape.specs.declared.Allowed.{Allowed}
+use Rattle.escape.specs.declared.Unescaped.{Unescaped}
+use Rattle.escape.specs.declared.Unescaped.the-variants.{Byte}
+use Rattle.body.specs.Step.{Next, piece, stop, plainOf, plainByte, rawByte, rawStepOf}
+use Rattle.body.specs.Body.{rawBody}
+use Rattle.body.proofs.Within.{raw-in}
+use Rattle.body.proofs.Bodies.{Passed, start, induct, bounds, more}
+use Rattle.body.proofs.Runs.{raw-plain-step, passed-to}
+
+-- a piece is the first byte
+abbrev OneByte : List ℕ → Next → Type 0
+OneByte s (piece n u) = (n ≡ 1) × (u ≡ Byte (getD s 0 0))
+OneByte s (stop e) = Unit {0}
+
+one-byte : (k : Allowed) (h : ℕ) (s : List ℕ) → OneByte s (rawStepOf k h s)
+unfolding rawStepOf rawByte plainOf
+one-byte k h [] = tt
+one-byte k h (b ∷ s) =
+    let P : Next → Type 0 = OneByte (b ∷ s) in
+    cond-eq P b 34 (λ e. cond-in P (leb h (run (only 35) s)) (λ f. tt) (λ f. (refl, ap Byte (sym e)))) λ e.
+    cond-eq P b 13 (λ f. tt) λ f.
+    cond-eq P b 34 (λ f. tt) λ f.
+    cond-in P (not (k .«allow_nul») && eqb b 0) (λ g. tt) λ g.
+    cond-in P (not (k .unicode) && ltb 127 b) (λ g. tt) λ g. (refl, refl)
+
+take-none : (s : List ℕ) → take 0 s ≡ []
+take-none [] = refl
+take-none (b ∷ s) = refl
+
+take-one : (s : List ℕ) → 0 < length s → take 1 s ≡ getD s 0 0 ∷ []
+take-one [] h = absurd (omega arith)
+take-one (b ∷ s) h = ap (λ (l : List ℕ). b ∷ l) (take-none s)
+
+module _ (k : Allowed) (h : ℕ) where
+  -- a piece stands for the bytes that it has
+  itself : (s : List ℕ) (n : ℕ) (u : Unescaped) → rawStepOf k h s ≡ piece n u → 0 < length s → bytesOf u ≡ take n s
+  itself s n u e l =
+      let o : OneByte s (piece n u) = rw e at (one-byte k h s) in
+      rw (o .0, o .1) (sym (take-one s l))
+
+  -- THE LAW: the value of a raw body is the bytes before its end, as they stand.
+  pub raw-value : (s : List ℕ) → rawBody k h s .value ≡ take (rawBody k h s .at) s
+  raw-value s =
+      induct (rawStepOf k h) (h + 1) (raw-in k h) (λ s b. b .value ≡ take (b .at) s)
+      (λ s e g. sym (take-none s))
+      (λ s n u g p l r. rw (itself s n u g (omega arith), r) (sym (take-add n (rawBody k h (drop n s) .at) s)))
+      s
+
+  -- ---- a loop over a raw body, which stands at i
+
+  pub raw-start : (s : List ℕ) → Passed (rawStepOf k h) s 0 (take 0 s)
+  raw-start s = rw (take-none s) (start (rawStepOf k h) s)
+
+  pub raw-run : {s : List ℕ} {i : ℕ} (e : ℕ) → Passed (rawStepOf k h) s i (take i s) → e ≡ i + run (plainByte k) (drop i s)
+      → Passed (rawStepOf k h) s e (take e s)
+  raw-run {s} {i} e q g =
+      let back : i + (e - i) ≡ e = omega arith in
+      let whole : take i s ++ take (e - i) (drop i s) ≡ take e s = sym (take-add i (e - i) s) ∙ ap (λ (n : ℕ). take n s) back in
+      rw whole at (passed-to (rawStepOf k h) (plainByte k) (raw-plain-step k h) e q g)
+
+  pub raw-more : {s : List ℕ} {i : ℕ} (n : ℕ) (u : Unescaped) → Passed (rawStepOf k h) s i (take i s) → rawStepOf k h (drop i s) ≡ piece n u
+      → Passed (rawStepOf k h) s (i + n) (take (i + n) s)
+  raw-more {s} {i} n u q g =
+      let b = bounds (rawStepOf k h) (h + 1) (raw-in k h) q n u g in
+      let whole : take i s ++ bytesOf u ≡ take (i + n) s = rw (itself (drop i s) n u g (omega (arith, b, length-drop i s))) (sym (take-add i n s)) in
+      rw whole at (more (rawStepOf k h) (h + 1) (raw-in k h) q n u g)

@@ -1,0 +1,107 @@
+-- One law for each way through a step of a body.
+-- Assumes nothing.
+use mathlib.Core.Path.{_≡_, sym}
+use mathlib.Core.Bool.{true, false, not, _&&_}
+use mathlib.Core.List.{List}
+use Prim.Native.Nat.{ℕ, suc, _+_, _≤_, _<_}
+use native.Mathlib.Numerals.{add-one}
+use borrow.Author.Tests.{eq-eqb, ne-eqb, le-leb, lt-leb}
+use lib.Dec.{eqb, ltb}
+use lib.ListN.{length, getD, drop, drop-of-length-le}
+use lib.Seq.{drop-cons}
+use Rattle.err.specs.Outcome.{none, between}
+use Rattle.scan.specs.Run.{run}
+use Rattle.scan.specs.Sets.{only}
+use Rattle.parse.specs.Sets.{blank}
+use Rattle.utf8.specs.Cut.{front}
+use Rattle.escape.specs.Escape.{escapeOf}
+use Rattle.escape.specs.declared.Allowed.{Allowed}
+use Rattle.escape.specs.declared.Unescaped.the-variants.{Nothing, Byte}
+use Rattle.body.specs.Step.{close, refuse, piece, stop, ofEscape, lineBreakOf, backslashOf, plainOf, stepOf, rawByte, rawStepOf}
+
+-- ---- a dropped line break
+
+module _ (s : List ℕ) (n : ℕ) (is : n ≡ run blank s) where
+  pub break-open : n ≡ length s → stop (refuse 30 none) ≡ lineBreakOf s
+  unfolding lineBreakOf
+  break-open e = rw (← is, eq-eqb _ _ e)
+
+  pub break-drops : (n ≡ length s → ⊥) → piece (n + 2) Nothing ≡ lineBreakOf s
+  unfolding lineBreakOf
+  break-drops e = rw (← is, ne-eqb _ _ e)
+
+-- ---- a backslash
+
+module _ (k : Allowed) (s : List ℕ) where
+  pub is-break : getD s 1 0 ≡ 10 → lineBreakOf (drop 2 s) ≡ backslashOf k s
+  unfolding backslashOf
+  is-break e = rw (eq-eqb _ _ e)
+
+  pub is-escape : (getD s 1 0 ≡ 10 → ⊥) → ofEscape (escapeOf k (front s)) ≡ backslashOf k s
+  unfolding backslashOf
+  is-escape e = rw (ne-eqb _ _ e)
+
+-- ---- any other byte
+
+module _ (k : Allowed) (b : ℕ) where
+  pub is-cr : b ≡ 13 → stop (refuse 37 (between 0 1)) ≡ plainOf k b
+  unfolding plainOf
+  is-cr e = rw (eq-eqb _ _ e)
+
+  module _ (cr : b ≡ 13 → ⊥) where
+    pub is-quote : b ≡ 34 → stop close ≡ plainOf k b
+    unfolding plainOf
+    is-quote e = rw (ne-eqb _ _ cr, eq-eqb _ _ e)
+
+    module _ (quote : b ≡ 34 → ⊥) where
+      pub is-nul : (not (k .«allow_nul») && eqb b 0) ≡ true → stop (refuse 36 (between 0 1)) ≡ plainOf k b
+      unfolding plainOf
+      is-nul e = rw (ne-eqb _ _ cr, ne-eqb _ _ quote, e)
+
+      module _ (nul : (not (k .«allow_nul») && eqb b 0) ≡ false) where
+        pub is-high : (not (k .unicode) && ltb 127 b) ≡ true → stop (refuse 25 (between 0 1)) ≡ plainOf k b
+        unfolding plainOf
+        is-high e = rw (ne-eqb _ _ cr, ne-eqb _ _ quote, nul, e)
+
+        pub is-plain : (not (k .unicode) && ltb 127 b) ≡ false → piece 1 (Byte b) ≡ plainOf k b
+        unfolding plainOf
+        is-plain e = rw (ne-eqb _ _ cr, ne-eqb _ _ quote, nul, e)
+
+-- ---- at an offset of a quoted body
+
+module _ (k : Allowed) (s : List ℕ) (i : ℕ) where
+  pub at-end : length s ≤ i → stop (refuse 30 none) ≡ stepOf k (drop i s)
+  unfolding stepOf
+  at-end h = rw (drop-of-length-le s h)
+
+  pub at-backslash : i < length s → getD s i 0 ≡ 92 → backslashOf k (drop i s) ≡ stepOf k (drop i s)
+  unfolding stepOf
+  at-backslash h e = rw (drop-cons s i 0 h, eq-eqb _ _ e)
+
+  pub at-plain : i < length s → (getD s i 0 ≡ 92 → ⊥) → plainOf k (getD s i 0) ≡ stepOf k (drop i s)
+  unfolding stepOf
+  at-plain h e = rw (drop-cons s i 0 h, ne-eqb _ _ e)
+
+-- ---- at an offset of a raw body
+
+module _ (k : Allowed) (h : ℕ) (s : List ℕ) (i : ℕ) where
+  pub raw-end : length s ≤ i → stop (refuse 29 none) ≡ rawStepOf k h (drop i s)
+  unfolding rawStepOf
+  raw-end l = rw (drop-of-length-le s l)
+
+  module _ (l : i < length s) where
+    pub raw-plain : (getD s i 0 ≡ 34 → ⊥) → plainOf k (getD s i 0) ≡ rawStepOf k h (drop i s)
+    unfolding rawStepOf rawByte
+    raw-plain e = rw (drop-cons s i 0 l, ne-eqb _ _ e)
+
+    module _ (e : getD s i 0 ≡ 34) (n : ℕ) (is : n ≡ run (only 35) (drop (i + 1) s)) where
+      there : run (only 35) (drop (suc i) s) ≡ n
+      there = sym (rw (add-one i) at is)
+
+      pub raw-close : h ≤ n → stop close ≡ rawStepOf k h (drop i s)
+      unfolding rawStepOf rawByte
+      raw-close g = rw (drop-cons s i 0 l, eq-eqb _ _ e, there, le-leb _ _ g)
+
+      pub raw-quote : n < h → piece 1 (Byte 34) ≡ rawStepOf k h (drop i s)
+      unfolding rawStepOf rawByte
+      raw-quote g = rw (drop-cons s i 0 l, eq-eqb _ _ e, there, lt-leb _ _ g)

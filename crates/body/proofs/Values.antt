@@ -1,0 +1,76 @@
+-- What a step can stand for, so that litrs's `unwrap_char` and `unwrap_byte` meet no value that they panic on.
+-- Assumes nothing.
+use mathlib.Core.Path.{_≡_, refl}
+use mathlib.Core.Bool.{false, not, _&&_}
+use mathlib.Core.List.{List, [], _∷_}
+use Prim.Native.Nat.{ℕ, _<_}
+use native.Mathlib.Omega.{arith}
+use lib.Dec.{eqb, ltb}
+use lib.ListN.{length, getD, drop}
+use Rattle.scan.specs.Run.{run}
+use Rattle.scan.proofs.Cases.{cond-in, cond-eq, clash}
+use Rattle.parse.specs.Sets.{blank}
+use Rattle.utf8.specs.Cut.{front}
+use Rattle.escape.specs.Escape.{Escaped, value, bad, escapeOf}
+use Rattle.escape.specs.declared.Allowed.{Allowed}
+use Rattle.escape.specs.declared.Unescaped.{Unescaped}
+use Rattle.escape.specs.declared.Unescaped.the-variants.{Byte, Unicode}
+use Rattle.escape.proofs.Values.{Unwraps, EscapeUnwraps, escape-unwraps}
+use Rattle.body.specs.Step.{Next, piece, stop, ofEscape, lineBreakOf, backslashOf, plainOf, stepOf}
+
+-- a piece that starts with a backslash can be unwrapped, and any other is its first byte
+abbrev pub StepUnwraps : Allowed → List ℕ → Next → Type 0
+StepUnwraps k s (piece n u) = (getD s 0 0 ≡ 92 → Unwraps k u) × ((getD s 0 0 ≡ 92 → ⊥) → u ≡ Byte (getD s 0 0))
+StepUnwraps k s (stop e) = Unit {0}
+
+backslash-unwraps : (k : Allowed) (b : ℕ) (s : List ℕ) → b ≡ 92 → StepUnwraps k (b ∷ s) (backslashOf k (b ∷ s))
+unfolding backslashOf lineBreakOf
+backslash-unwraps k b s is =
+    let P : Next → Type 0 = StepUnwraps k (b ∷ s) in
+    let rest : List ℕ = drop 1 s in
+    cond-eq P (getD s 0 0) 10
+    (λ e. cond-in P (eqb (run blank rest) (length rest)) (λ f. tt) (λ f. ((λ x. tt), (λ x. absurd (x is)))))
+    (λ e. of-escape (escapeOf k (front (b ∷ s))) (escape-unwraps k (front (b ∷ s))))
+  where
+    of-escape : (e : Escaped) → EscapeUnwraps k e → StepUnwraps k (b ∷ s) (ofEscape e)
+    of-escape (value u n) h = ((λ x. h), (λ x. absurd (x is)))
+    of-escape (bad num p) h = tt
+
+plain-unwraps : (k : Allowed) (b : ℕ) (s : List ℕ) → (b ≡ 92 → ⊥) → StepUnwraps k (b ∷ s) (plainOf k b)
+unfolding plainOf
+plain-unwraps k b s other =
+    let P : Next → Type 0 = StepUnwraps k (b ∷ s) in
+    cond-eq P b 13 (λ e. tt) λ e.
+    cond-eq P b 34 (λ e. tt) λ e.
+    cond-in P (not (k .«allow_nul») && eqb b 0) (λ e. tt) λ e.
+    cond-in P (not (k .unicode) && ltb 127 b) (λ e. tt) λ e. ((λ x. absurd (other x)), (λ x. refl))
+
+-- THE LAW, for every byte list
+pub step-unwraps : (k : Allowed) (s : List ℕ) → StepUnwraps k s (stepOf k s)
+unfolding stepOf
+step-unwraps k [] = tt
+step-unwraps k (b ∷ s) = cond-eq (StepUnwraps k (b ∷ s)) b 92 (backslash-unwraps k b s) (plain-unwraps k b s)
+
+module _ (k : Allowed) (s : List ℕ) (n : ℕ) where
+  told : (u : Unescaped) → stepOf k s ≡ piece n u → StepUnwraps k s (piece n u)
+  told u e = rw e at (step-unwraps k s)
+
+  -- where the kind has no Unicode escapes, no step gives a character
+  pub no-unicode : (c : ℕ) → k .unicode ≡ false → stepOf k s ≡ piece n (Unicode c) → ⊥
+  no-unicode c u e =
+      let r = told (Unicode c) e in
+      cond-eq (λ (x : ℕ). ⊥) (getD s 0 0) 92 {x = 0} {y = 0}
+      (λ b. clash (r .0 b .1) u)
+      (λ b. let z : _≡_ {A = ℕ} 0 1 = cc (r .1 b) in omega arith)
+
+  -- where it has no byte escapes, an escape gives a byte below 128
+  pub escape-low : (b : ℕ) → k .«byte_escapes» ≡ false → getD s 0 0 ≡ 92 → stepOf k s ≡ piece n (Byte b) → b < 128
+  escape-low b u f e = told (Byte b) e .0 f .1 u
+
+  -- a byte value is below 256 where the text's bytes are
+  pub byte-small : (b : ℕ) → getD s 0 0 < 256 → stepOf k s ≡ piece n (Byte b) → b < 256
+  byte-small b h e =
+      let r = told (Byte b) e in
+      cond-eq (λ (x : ℕ). b < 256) (getD s 0 0) 92 {x = 0} {y = 0}
+      (λ f. r .0 f .0)
+      (λ f. let z : b ≡ getD s 0 0 = cc (r .1 f) in omega arith)

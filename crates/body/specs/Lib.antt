@@ -1,0 +1,4 @@
+pub mod Step
+pub mod Body
+pub mod Quote
+pub mod Pieces

@@ -1,0 +1,97 @@
+-- One step through a quoted or a raw body, as the loops of litrs's `unescape_string` and `scan_raw_string` (escape.rs) take it.
+-- Assumes nothing.
+use Prim.Native.Nat.{ℕ, _+_}
+use mathlib.Core.Bool.{Bool, true, false, cond, not, _&&_}
+use mathlib.Core.List.{List, [], _∷_}
+use lib.Dec.{eqb, ltb, leb}
+use lib.ListN.{length, getD, drop}
+use Rattle.err.specs.Outcome.{Place, none, between}
+use Rattle.err.specs.Numbers.{numberOf}
+use Rattle.err.specs.Reading.{placeOf}
+use Rattle.scan.specs.Run.{run}
+use Rattle.scan.specs.Sets.{only}
+use Rattle.parse.specs.Sets.{blank}
+use Rattle.utf8.specs.Cut.{front}
+use Rattle.escape.specs.Escape.{Escaped, value, bad, escapeOf}
+use Rattle.escape.specs.declared.Allowed.{Allowed}
+use Rattle.escape.specs.declared.Unescaped.{Unescaped}
+use Rattle.escape.specs.declared.Unescaped.the-variants.{Nothing, Byte}
+use Rattle.body.specs.declared.Ending.{Ending}
+use Rattle.body.specs.declared.Ending.the-variants as ending
+use Rattle.body.specs.declared.Step.{Step}
+use Rattle.body.specs.declared.Step.the-variants as step
+
+-- why a body ends: at its closing quote, or with a refusal's number and its span, counted from here
+pub data End : Type 0 where
+  close : End
+  refuse : ℕ → Place → End
+
+-- one turn of the loop: n bytes that stand for a value, or the end
+pub data Next : Type 0 where
+  piece : ℕ → Unescaped → Next
+  stop : End → Next
+
+-- 01's number and span for each case of an ending
+abbrev pub endOf : Ending → End
+endOf ending.Close = close
+endOf (ending.Bad k s) = refuse (numberOf k) (placeOf s)
+
+-- and of a step
+abbrev pub nextOf : Step → Next
+nextOf (step.Piece u n) = piece n u
+nextOf (step.Stop e) = stop (endOf e)
+
+-- ---- quoted bodies
+
+-- litrs's `map_err(|e| e.offset_span(i))`: an escape's refusal ends the body
+abbrev pub ofEscape : Escaped → Next
+ofEscape (value u n) = piece n u
+ofEscape (bad num p) = stop (refuse num p)
+
+-- 01, Escapes: "A backslash before LF drops itself and all following spaces, tabs and LFs; a text that ends there is 30". s is what stands
+-- behind the LF.
+unfoldable pub lineBreakOf : List ℕ → Next
+lineBreakOf s =
+    cond (eqb (run blank s) (length s)) (stop (refuse 30 none))
+    (piece (run blank s + 2) Nothing)
+
+-- the two arms for a backslash; 01, Escapes: "In quoted strings the escape never sees the text's last character"
+unfoldable pub backslashOf : Allowed → List ℕ → Next
+backslashOf k s = cond (eqb (getD s 1 0) 10) (lineBreakOf (drop 2 s)) (ofEscape (escapeOf k (front s)))
+
+-- the arms for any other byte, in their order: CR is 37, a quote closes, NUL is 36 and a byte above 127 is 25 where the kind has none
+unfoldable pub plainOf : Allowed → ℕ → Next
+plainOf k b =
+    cond (eqb b 13) (stop (refuse 37 (between 0 1)))
+    (cond (eqb b 34) (stop close)
+    (cond (not (k .«allow_nul») && eqb b 0) (stop (refuse 36 (between 0 1)))
+    (cond (not (k .unicode) && ltb 127 b) (stop (refuse 25 (between 0 1)))
+    (piece 1 (Byte b)))))
+
+-- `match input.as_bytes()[i]` of `unescape_string`, on what is left of the text; behind the last byte 30
+unfoldable pub stepOf : Allowed → List ℕ → Next
+stepOf k [] = stop (refuse 30 none)
+stepOf k (b ∷ s) = cond (eqb b 92) (backslashOf k (b ∷ s)) (plainOf k b)
+
+-- the last arm, `_ => i += 1`: a byte that stands for itself (proofs/Runs: so it does in a quoted and in a raw body)
+unfoldable pub plainByte : Allowed → ℕ → Bool
+plainByte k b =
+    cond (eqb b 92) false
+    (cond (eqb b 13) false
+    (cond (eqb b 34) false
+    (cond (eqb b 0) (k .«allow_nul») (cond (ltb 127 b) (k .unicode) true))))
+
+-- ---- raw bodies
+
+-- 01, Quoted kinds: "A raw string closes at its first inner quote followed by its hashes", of which there are h; another quote stands for
+-- itself, and then CR, NUL and non-ASCII are refused as above
+unfoldable pub rawByte : Allowed → ℕ → ℕ → List ℕ → Next
+rawByte k h b s =
+    cond (eqb b 34)
+    (cond (leb h (run (only 35) s)) (stop close) (piece 1 (Byte 34)))
+    (plainOf k b)
+
+-- one turn of `scan_raw_string`'s loop, on what is left of the text; behind the last byte 29
+unfoldable pub rawStepOf : Allowed → ℕ → List ℕ → Next
+rawStepOf k h [] = stop (refuse 29 none)
+rawStepOf k h (b ∷ s) = rawByte k h b s

@@ -1,0 +1,52 @@
+-- `character::plain_char` meets its contract.
+-- Assumes nothing.
+use mathlib.Core.Path.{_≡_, sym, _∙_}
+use native.Mathlib.Omega.{arith}
+use lib.ListN.{drop}
+use Rattle.utf8.specs.Decode.{decode}
+use Rattle.utf8.specs.declared.Decoded.the-variants.{Char}
+use Rattle.utf8.proofs.At.{found-bounds}
+use borrow.Author.Needs.{needs}
+use Rattle.character.proofs.plain_char.Statement.{statement}
+use Rattle.character.proofs.plain_char.Tie as tie
+
+decode-char-requires : tie.Need-decode-char-requires
+decode-char-requires c κs = search needs
+
+enum-known-found : tie.Need-enum-known-found
+enum-known-found c = search needs
+
+enum-told : tie.Need-enum-told
+enum-told c = search needs
+
+returns : tie.Need-returns
+returns c = rw (sym (c .before .before .decode-char .ensures) ∙ c .enum-told .given .1)
+
+decoded : (c : tie.After-known-told) →
+    let a = c .before .before .before .before .before .args in
+    let f = c .before .found .given .0 in
+    decode (drop (a .at) (a .text .now)) ≡ Char (f .0) (f .1 .0)
+decoded c = sym (c .before .before .before .decode-char .ensures) ∙ c .before .found .given .1
+
+add-closed : tie.Need-add-closed
+add-closed c =
+    let a = c .before .before .before .before .before .args in
+    omega (arith, found-bounds (a .text .now) (a .at) _ _ (decoded c))
+
+closed-requires : tie.Need-closed-requires
+closed-requires c κs = found-bounds _ _ _ _ (decoded c) .1
+
+returns-2 : tie.Need-returns-2
+returns-2 c = rw (decoded (c .before)) (c .closed .ensures)
+
+pub plain-char-spec : {M : Type 1} → statement M
+plain-char-spec =
+    tie.close
+    (tie.spec
+    decode-char-requires
+    enum-known-found
+    enum-told
+    returns
+    add-closed
+    closed-requires
+    returns-2)

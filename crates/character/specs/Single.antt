@@ -1,0 +1,130 @@
+-- What litrs's `CharLit::parse` and `ByteLit::parse` answer (01, Quoted kinds), in their order of tests. The two differ in where the
+-- character starts, in what may stand there, and in three refusals.
+-- Assumes nothing.
+use Prim.Native.Nat.{ℕ, _+_}
+use mathlib.Core.Bool.{Bool, true, false, cond, _||_, _&&_}
+use mathlib.Core.List.{List, [], _∷_}
+use lib.Dec.{eqb, ltb}
+use lib.ListN.{length, getD, drop}
+use Rattle.err.specs.Outcome.{Outcome, refused, accepted, none, between, shift, value}
+use Rattle.err.specs.Numbers.{numberOf}
+use Rattle.err.specs.Reading.{placeOf}
+use Rattle.scan.specs.Run.{run}
+use Rattle.scan.specs.Sets.{except}
+use Rattle.parse.specs.Suffix.{suffixFault}
+use Rattle.utf8.specs.Decode.{decode}
+use Rattle.utf8.specs.declared.Decoded.{Decoded}
+use Rattle.utf8.specs.declared.Decoded.the-variants as decoded
+use Rattle.escape.specs.Escape.{Escaped, escapeOf}
+use Rattle.escape.specs.Escape as escape
+use Rattle.escape.specs.declared.Allowed.{Allowed}
+use Rattle.escape.specs.declared.Unescaped.{Unescaped}
+use Rattle.escape.specs.declared.Unescaped.the-variants as unescaped
+use Rattle.character.specs.declared.Quote.{Quote}
+use Rattle.character.specs.declared.Quote.the-variants.{Char, Byte}
+use Rattle.character.specs.declared.Single.{Single}
+use Rattle.character.specs.declared.Single.the-variants as single
+
+-- 01: char is kind 4, byte kind 6
+abbrev pub kindOf : Quote → ℕ
+kindOf Char = 4
+kindOf Byte = 6
+
+-- behind `'`, behind `b'`
+abbrev pub offsetOf : Quote → ℕ
+offsetOf Char = 1
+offsetOf Byte = 2
+
+-- the arguments that litrs gives `unescape`
+abbrev pub allowedIn : Quote → Allowed
+allowedIn Char = record { unicode = true; «byte_escapes» = false; «allow_nul» = true }
+allowedIn Byte = record { unicode = false; «byte_escapes» = true; «allow_nul» = true }
+
+-- UnterminatedCharLiteral, UnterminatedByteLiteral
+abbrev pub unterminated : Quote → ℕ
+unterminated Char = 19
+unterminated Byte = 22
+
+-- OverlongCharLiteral, OverlongByteLiteral
+abbrev pub overlong : Quote → ℕ
+overlong Char = 20
+overlong Byte = 23
+
+-- EmptyCharLiteral, EmptyByteLiteral
+abbrev pub empty : Quote → ℕ
+empty Char = 21
+empty Byte = 24
+
+-- document 01's numbers and values for each case
+abbrev pub singleOf : Quote → Single → Outcome
+singleOf q (single.Value v start) = accepted (kindOf q) start (value v)
+singleOf q (single.Refused k p) = refused (numberOf k) (placeOf p)
+
+-- "In kinds 4 to 8 a suffix fault spans the suffix's first byte."
+unfoldable pub suffixedAt : Quote → List ℕ → ℕ → ℕ → Outcome
+suffixedAt q s start v =
+    cond (eqb (suffixFault (drop start s)) 0) (accepted (kindOf q) start (value v))
+    (refused (suffixFault (drop start s)) (between start (start + 1)))
+
+-- behind the character: the closing quote; a later one makes it overlong; without one it is not terminated
+unfoldable pub closedAt : Quote → List ℕ → ℕ → ℕ → Outcome
+closedAt q s at v =
+    cond (eqb (getD s at 0) 39) (suffixedAt q s (at + 1) v)
+    (cond (eqb (run (except 39) (drop at s)) (length (drop at s)))
+    (refused (unterminated q) none)
+    (refused (overlong q) none))
+
+-- the character at an offset, as RFC 3629 decodes it; in a UTF-8 text there is one unless the text ends there
+abbrev pub decodedAt : List ℕ → ℕ → Decoded → Outcome
+decodedAt s at (decoded.Char c n) = closedAt Char s (at + n) c
+decodedAt s at decoded.Bad = refused 19 none
+
+-- a character that stands for itself; a byte above 127 is 25
+abbrev pub plainAt : Quote → List ℕ → ℕ → Outcome
+plainAt Char s at = decodedAt s at (decode (drop at s))
+plainAt Byte s at =
+    cond (ltb (getD s at 0) 128) (closedAt Byte s (at + 1) (getD s at 0))
+    (refused 25 (between at (at + 1)))
+
+-- litrs's `unwrap_char` and `unwrap_byte`: the number of what an escape stands for, which is never a dropped line break
+abbrev pub scalarOf : Unescaped → ℕ
+scalarOf unescaped.Nothing = 0
+scalarOf (unescaped.Byte b) = b
+scalarOf (unescaped.Unicode c) = c
+
+abbrev pub escapedBy : Quote → List ℕ → ℕ → Escaped → Outcome
+escapedBy q s at (escape.value u n) = closedAt q s (at + n) (scalarOf u)
+escapedBy q s at (escape.bad num p) = refused num (shift at p)
+
+-- an escape: "in chars and bytes it does" see the text's last character
+unfoldable pub escapedAt : Quote → List ℕ → ℕ → Outcome
+escapedAt q s at = escapedBy q s at (escapeOf (allowedIn q) (drop at s))
+
+-- LF, tab, CR
+unfoldable pub special : ℕ → Bool
+special b = eqb b 10 || (eqb b 9 || eqb b 13)
+
+-- a quote at once: 26 where another follows, else the literal is empty
+unfoldable pub quoteAt : Quote → List ℕ → ℕ → Outcome
+quoteAt q s at = cond (eqb (getD s (at + 1) 0) 39) (refused 26 (between at (at + 1))) (refused (empty q) none)
+
+unfoldable pub firstAt : Quote → List ℕ → ℕ → Outcome
+firstAt q s at =
+    cond (eqb (getD s at 0) 39) (quoteAt q s at)
+    (cond (special (getD s at 0)) (refused 27 (between at (at + 1)))
+    (cond (eqb (getD s at 0) 92) (escapedAt q s at)
+    (plainAt q s at)))
+
+-- of a text that starts with `'` or `b'`
+unfoldable pub singleAt : Quote → List ℕ → Outcome
+singleAt q s = cond (ltb (offsetOf q) (length s)) (firstAt q s (offsetOf q)) (refused (unterminated q) none)
+
+-- of any text: no bytes are 1, another start is 28
+unfoldable pub charRead : List ℕ → Outcome
+charRead [] = refused 1 none
+charRead (b ∷ s) = cond (eqb b 39) (singleAt Char (b ∷ s)) (refused 28 (between 0 1))
+
+-- of any text: no bytes are 1, another start is 32
+unfoldable pub byteRead : List ℕ → Outcome
+byteRead [] = refused 1 none
+byteRead (b ∷ s) = cond (eqb b 98 && eqb (getD s 0 0) 39) (singleAt Byte (b ∷ s)) (refused 32 none)

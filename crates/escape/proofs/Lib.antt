@@ -1,0 +1,4 @@
+pub mod Hexes
+pub mod Escapes
+pub mod Within
+pub mod Values

@@ -1,0 +1,3 @@
+pub mod Starts
+pub mod Literals
+pub mod Decodes

@@ -1,0 +1,164 @@
+-- What an accepted literal's hashes and value length say of its text and its value.
+-- Assumes nothing.
+use mathlib.Core.Path.{_≡_, refl, sym, ap}
+use mathlib.Core.List.{List, [], _∷_}
+use Prim.Native.Nat.{ℕ, zero, suc, _+_, _≤_}
+use native.Mathlib.Omega.{arith}
+use lib.Dec.{eqb}
+use lib.ListN.{length, getD, take, drop, length-take, length-drop}
+use Rattle.err.specs.Outcome.{Place, Outcome, refused, accepted, Rawness, notRaw, raw, truth, digits, ends, value, decoded}
+use Rattle.err.specs.Reading.{hashesOf}
+use Rattle.err.specs.declared.Hashes.the-variants.{NotRaw, Raw}
+use Rattle.err.specs.declared.StringLit.{StringLit}
+use Rattle.scan.specs.Sets.{only}
+use Rattle.scan.proofs.Cases.{cond-in, cond-eq, cond-lt}
+use Rattle.scan.proofs.Runs.{run-le}
+use Rattle.body.specs.Step.{End, close, refuse, stepOf, rawStepOf}
+use Rattle.body.specs.Body.{Body, body, rawBody}
+use Rattle.body.specs.Quote.{Quote, closing, afterEnd, stringOf, rawFrom, rawAt, rawOf}
+use Rattle.body.specs.Quote as quote
+use Rattle.body.specs.declared.Quoted.the-variants as answer
+use Rattle.body.proofs.Within.{step-in, raw-in}
+use Rattle.body.proofs.Bodies as bodies
+use Rattle.body.proofs.Strings.{suffix-good, suffix-bad}
+use Rattle.body.proofs.Raws.{raw-value}
+use Rattle.string.specs.String.{offsetOf, allowedIn, openingBy, openingAt, startFault, ofQuote, parsedOf, readBy, stringRead, hashesAt, valueBy, stringValue}
+use Rattle.string.specs.declared.Kind.{Kind}
+use Rattle.string.specs.declared.Kind.the-variants.{Text, Bytes, C}
+use Rattle.string.specs.declared.Opening.{Opening}
+use Rattle.string.specs.declared.Opening.the-variants as opening
+
+-- of a quoted literal of the text s, whose value v has n bytes
+pub record QuotedLit (k : Kind) (s v : List ℕ) (n : ℕ) : Type 0 where
+  pub inside : offsetOf k ≤ length s
+  pub value : v ≡ body (allowedIn k) (drop (offsetOf k) s) .value
+  pub count : n ≡ length v
+  pub short : n ≤ length s
+
+-- of a raw one with h hashes: its value is the slice behind them and the quote
+pub record RawLit (k : Kind) (s v : List ℕ) (h n : ℕ) : Type 0 where
+  pub inside : offsetOf k + h + 1 + n ≤ length s
+  pub hashes : h ≡ hashesAt s (offsetOf k)
+  pub value : v ≡ take n (drop (offsetOf k + h + 1) s)
+  pub count : n ≡ length v
+
+abbrev pub Literal : Kind → List ℕ → List ℕ → Rawness → ℕ → Type 0
+Literal k s v notRaw n = QuotedLit k s v n
+Literal k s v (raw h) n = RawLit k s v h n
+
+-- what holds of an accepted outcome
+abbrev pub Accepts : (Rawness → ℕ → Type 0) → Outcome → Type 0
+Accepts P (accepted kind e (decoded r n)) = P r n
+Accepts P (accepted kind e (truth b)) = Unit {0}
+Accepts P (accepted kind e (digits b m n)) = Unit {0}
+Accepts P (accepted kind e (ends l m n)) = Unit {0}
+Accepts P (accepted kind e (value n)) = Unit {0}
+Accepts P (refused n p) = Unit {0}
+
+-- ---- how it opens
+
+pub opening-inside : (k : Kind) (s : List ℕ) → (openingAt k s ≡ opening.Neither → ⊥) → offsetOf k ≤ length s
+unfolding openingBy
+opening-inside Text [] h = absurd (h refl)
+opening-inside Text (b ∷ s) h = omega arith
+opening-inside Bytes [] h = absurd (h refl)
+opening-inside Bytes (b ∷ []) h = absurd (h (cond-in (λ o. o ≡ opening.Neither) (eqb b 98) (λ e. refl) (λ e. refl)))
+opening-inside Bytes (b ∷ a ∷ s) h = omega arith
+opening-inside C [] h = absurd (h refl)
+opening-inside C (b ∷ []) h = absurd (h (cond-in (λ o. o ≡ opening.Neither) (eqb b 99) (λ e. refl) (λ e. refl)))
+opening-inside C (b ∷ a ∷ s) h = omega arith
+
+-- ---- what is read of a body
+
+no-start : (k : Kind) (P : Rawness → ℕ → Type 0) → Accepts P (startFault k)
+no-start Text P = tt
+no-start Bytes P = tt
+no-start C P = tt
+
+module _ (k : Kind) (s : List ℕ) where
+  -- whatever the suffix, an accepted literal has its body's hashes and length
+  after-end : (P : Rawness → ℕ → Type 0) (r : Rawness) (at n : ℕ) (e : End) → P r n → Accepts P (ofQuote k (afterEnd s r at n e))
+  after-end P r at n (refuse num p) h = tt
+  after-end P r at n close h = go _ (suffix-good s r (at + closing r) n _ refl) (suffix-bad s r (at + closing r) n _ refl)
+    where
+      go : (f : ℕ) {x : Place} {q : Quote} → (f ≡ 0 → quote.quoted r (at + closing r) n ≡ q) → ((f ≡ 0 → ⊥) → quote.refused f x ≡ q)
+          → Accepts P (ofQuote k q)
+      go zero good bad = rw (← good refl) h
+      go (suc f) good bad = rw (← bad (λ e. omega arith)) tt
+
+  quoted-is : offsetOf k ≤ length s
+      → let v = body (allowedIn k) (drop (offsetOf k) s) .value in QuotedLit k s v (length v)
+  quoted-is inside =
+      let d : List ℕ = drop (offsetOf k) s in
+      let good = step-in (allowedIn k) in
+      let short = bodies.value-short (stepOf (allowedIn k)) 1 good d in
+      record {
+        inside = inside;
+        value = refl;
+        count = refl;
+        short = omega (arith, bodies.ends-in (stepOf (allowedIn k)) 1 good d .0, length-drop (offsetOf k) s);
+      }
+
+  raw-is : (h : ℕ) → h ≡ hashesAt s (offsetOf k) → offsetOf k + h + 1 ≤ length s
+      → let v = rawBody (allowedIn k) h (drop (offsetOf k + h + 1) s) .value in RawLit k s v h (length v)
+  raw-is h g fits =
+      let d : List ℕ = drop (offsetOf k + h + 1) s in
+      let b : Body = rawBody (allowedIn k) h d in
+      let slice : b .value ≡ take (b .at) d = raw-value (allowedIn k) h d in
+      let i : b .at ≤ length d = bodies.ends-in (rawStepOf (allowedIn k) h) (h + 1) (raw-in (allowedIn k) h) d .0 in
+      let l : length (b .value) ≡ b .at = rw slice (simp length-take (omega arith)) in
+      record {
+        inside = omega (arith, length-drop (offsetOf k + h + 1) s);
+        hashes = g;
+        value = rw l slice;
+        count = refl;
+      }
+
+  by-opening : (o : Opening) → ((o ≡ opening.Neither → ⊥) → offsetOf k ≤ length s) → Accepts (Literal k s (valueBy k o s)) (readBy k o s)
+  unfolding stringOf rawOf rawAt rawFrom
+  by-opening opening.Quoted i =
+      let b : Body = body (allowedIn k) (drop (offsetOf k) s) in
+      after-end (Literal k s (b .value)) notRaw (offsetOf k + b .at) (length (b .value)) (b .end)
+      (quoted-is (i (λ e. let z : _≡_ {A = ℕ} 0 1 = cc in omega arith)))
+  by-opening opening.Raw i =
+      let h : ℕ = hashesAt s (offsetOf k) in
+      let b : Body = rawBody (allowedIn k) h (drop (offsetOf k + h + 1) s) in
+      let P : Quote → Type 0 = λ q. Accepts (Literal k s (b .value)) (ofQuote k q) in
+      let inside : offsetOf k ≤ length s = i (λ e. let z : _≡_ {A = ℕ} 0 1 = cc in omega arith) in
+      let fits : offsetOf k + h ≤ length s = omega (arith, run-le (only 35) (drop (offsetOf k) s), length-drop (offsetOf k) s) in
+      cond-eq P (offsetOf k + h) (length s) (λ e. tt) λ e.
+      cond-lt P 255 h (λ g. tt) λ g.
+      cond-eq P (getD s (offsetOf k + h) 0) 34
+      (λ q. after-end (Literal k s (b .value)) (raw h) (offsetOf k + h + 1 + b .at) (length (b .value)) (b .end) (raw-is h refl (omega arith)))
+      (λ q. tt)
+  by-opening opening.Neither i = no-start k (Literal k s [])
+
+-- THE LAW: what is accepted has its value in the text, with as many bytes as the reading says.
+pub literal : (k : Kind) (s : List ℕ) → Accepts (Literal k s (stringValue k s)) (stringRead k s)
+unfolding stringRead stringValue
+literal k [] = tt
+literal k (b ∷ s) = by-opening k (b ∷ s) (openingAt k (b ∷ s)) (opening-inside k (b ∷ s))
+
+-- of a literal that was read
+pub read-is : (k : Kind) (s : List ℕ) {kind e : ℕ} {r : Rawness} {n : ℕ} → stringRead k s ≡ accepted kind e (decoded r n) → Literal k s (stringValue k s) r n
+read-is k s g = rw g at (literal k s)
+
+module _ (k : Kind) (s : List ℕ) (lit : StringLit) (is : parsedOf k (answer.Lit lit) ≡ stringRead k s) where
+  pub quoted-lit : lit .hashes ≡ NotRaw → QuotedLit k s (stringValue k s) (lit .«value_len»)
+  quoted-lit e = rw (ap hashesOf e) at (read-is k s (sym is))
+
+  pub raw-lit : {h : ℕ} → lit .hashes ≡ Raw h → RawLit k s (stringValue k s) h (lit .«value_len»)
+  raw-lit e = rw (ap hashesOf e) at (read-is k s (sym is))
+
+-- ---- the value's length
+
+module _ (k : Kind) (s : List ℕ) where
+  counted : (r : Rawness) (n : ℕ) → Literal k s (stringValue k s) r n → (n ≡ length (stringValue k s)) × (n ≤ length s)
+  counted notRaw n l = (l .count, l .short)
+  counted (raw h) n l = (l .count, omega (arith, l .inside))
+
+  pub value-length : {kind e : ℕ} {r : Rawness} {n : ℕ} → stringRead k s ≡ accepted kind e (decoded r n) → n ≡ length (stringValue k s)
+  value-length {r = r} {n = n} g = counted r n (read-is k s g) .0
+
+  pub value-short : {kind e : ℕ} {r : Rawness} {n : ℕ} → stringRead k s ≡ accepted kind e (decoded r n) → n ≤ length s
+  value-short {r = r} {n = n} g = counted r n (read-is k s g) .1

@@ -1,0 +1,96 @@
+-- `string::parse_lit` meets its contract.
+-- Assumes nothing.
+use Prim.Native.Nat.{ℕ}
+use mathlib.Core.Path.{_≡_, sym, ap, _∙_}
+use native.Mathlib.Omega.{arith}
+use Rattle.string.specs.String.{ofQuote}
+use Rattle.string.proofs.Starts.{read-none, read-some, told-quoted, told-raw}
+use Rattle.string.proofs.Literals.{opening-inside}
+use borrow.Author.Needs.{needs}
+use Rattle.string.proofs.parse_lit.Statement.{statement}
+use Rattle.string.proofs.parse_lit.Tie as tie
+
+returns : tie.Need-returns
+returns c = read-none _ _ (c .if1 .taken)
+
+opening-of-requires : tie.Need-opening-of-requires
+opening-of-requires c κs = search needs
+
+enum-told : tie.Need-enum-told
+enum-told c = search needs
+
+offset-requires : tie.Need-offset-requires
+offset-requires c κs = search needs
+
+allowed-requires : tie.Need-allowed-requires
+allowed-requires c κs = search needs
+
+unescape-string-requires : tie.Need-unescape-string-requires
+unescape-string-requires c κs =
+    let e = c .before .before in
+    let f = e .before .before in
+    let a = f .before .before .before .args in
+    omega (arith, c .before .offset .ensures, opening-inside (a .k) (a .text .now) (told-quoted (a .k) (a .text .now) (f .opening-of .result) (f .opening-of .ensures) (e .enum-told .given .1)))
+
+enum-told-2 : tie.Need-enum-told-2
+enum-told-2 c = search needs
+
+offset-requires-2 : tie.Need-offset-requires-2
+offset-requires-2 c κs = search needs
+
+allowed-requires-2 : tie.Need-allowed-requires-2
+allowed-requires-2 c κs = search needs
+
+scan-raw-string-requires : tie.Need-scan-raw-string-requires
+scan-raw-string-requires c κs =
+    let e = c .before .before in
+    let f = e .before .before in
+    let a = f .before .before .before .args in
+    omega (arith, c .before .offset2 .ensures, opening-inside (a .k) (a .text .now) (told-raw (a .k) (a .text .now) (f .opening-of .result) (f .opening-of .ensures) (e .enum-told2 .given .1)))
+
+enum-told-3 : tie.Need-enum-told-3
+enum-told-3 c = search needs
+
+refused-start-requires : tie.Need-refused-start-requires
+refused-start-requires c κs = search needs
+
+returns-2 : tie.Need-returns-2
+returns-2 c =
+    let a = c .before in
+    let o = a .before in
+    let f = o .before .before .before in
+    rw (read-some _ _ (f .before .if1 .left), ← f .opening-of .ensures, o .before .enum-told .given .1)
+    (rw (← a .allowed .ensures, ← o .offset .ensures) (ap (ofQuote _) (c .unescape-string .ensures)))
+
+returns-3 : tie.Need-returns-3
+returns-3 c =
+    let a = c .before in
+    let o = a .before in
+    let f = o .before .before .before in
+    rw (read-some _ _ (f .before .if1 .left), ← f .opening-of .ensures, o .before .enum-told2 .given .1)
+    (rw (← a .allowed2 .ensures, ← o .offset2 .ensures) (ap (ofQuote _) (c .scan-raw-string .ensures)))
+
+returns-4 : tie.Need-returns-4
+returns-4 c =
+    let f = c .before .before .before in
+    rw (read-some _ _ (f .before .if1 .left), ← f .opening-of .ensures, c .before .enum-told3 .given .1) (c .refused-start .ensures)
+
+pub parse-lit-spec : {M : Type 1} → statement M
+parse-lit-spec =
+    tie.close
+    (tie.spec
+    returns
+    opening-of-requires
+    enum-told
+    offset-requires
+    allowed-requires
+    unescape-string-requires
+    enum-told-2
+    offset-requires-2
+    allowed-requires-2
+    scan-raw-string-requires
+    enum-told-3
+    refused-start-requires
+    returns-2
+    returns-3
+    returns-4)

@@ -1,0 +1,45 @@
+-- What decoding answers, and what the lent buffer holds then (01, Quoted kinds: "Decoded bytes of kinds 5, 7, 8 go to a lent buffer
+-- (..; 48 exactly when it is shorter than the value); bytes past the value keep what they held").
+-- Assumes nothing.
+use Prim.Native.Nat.{ℕ}
+use mathlib.Core.Bool.{cond}
+use mathlib.Core.List.{List}
+use lib.Dec.{leb}
+use lib.ListN.{length}
+use Rattle.err.specs.Outcome.{Place, Outcome, refused, accepted, none}
+use Rattle.err.specs.Numbers.{numberOf}
+use Rattle.err.specs.Reading.{placeOf}
+use Rattle.buffer.specs.Buffer.{over}
+use Rattle.string.specs.String.{stringRead, stringValue}
+use Rattle.string.specs.declared.Kind.{Kind}
+use Rattle.string.specs.declared.Decoded.{Decoded}
+use Rattle.string.specs.declared.Decoded.the-variants as answer
+
+-- how many bytes were written; or a refusal's number and span
+pub data Decode : Type 0 where
+  written : ℕ → Decode
+  withheld : ℕ → Place → Decode
+
+abbrev pub decodedOf : Decoded → Decode
+decodedOf (answer.Written n) = written n
+decodedOf (answer.Refused k p) = withheld (numberOf k) (placeOf p)
+
+-- of a value and a buffer of `have` bytes
+abbrev pub fitted : List ℕ → ℕ → Decode
+fitted v have = cond (leb (length v) have) (written (length v)) (withheld 48 none)
+
+abbrev pub ofReading : Outcome → List ℕ → ℕ → Decode
+ofReading (refused n p) v have = withheld n p
+ofReading (accepted kind e vs) v have = fitted v have
+
+-- the reading's own refusals come through
+unfoldable pub stringDecoded : Kind → List ℕ → ℕ → Decode
+stringDecoded k s have = ofReading (stringRead k s) (stringValue k s) have
+
+abbrev pub bufferOf : Outcome → List ℕ → List ℕ → List ℕ
+bufferOf (refused n p) v buf = buf
+bufferOf (accepted kind e vs) v buf = cond (leb (length v) (length buf)) (over v buf) buf
+
+-- the whole buffer at exit: the value, then what it held; refused: exactly as it came
+unfoldable pub bufferAfter : Kind → List ℕ → List ℕ → List ℕ
+bufferAfter k s buf = bufferOf (stringRead k s) (stringValue k s) buf

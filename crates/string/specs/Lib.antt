@@ -1,0 +1,2 @@
+pub mod String
+pub mod Decode

@@ -1,0 +1,87 @@
+-- What litrs's `StringLit::parse`, `ByteStringLit::parse` and `CStringLit::parse` answer (01, Quoted kinds), in their order of tests.
+-- Assumes nothing.
+use Prim.Native.Nat.{ℕ, _+_}
+use mathlib.Core.Bool.{true, false, cond}
+use mathlib.Core.List.{List, [], _∷_}
+use lib.Dec.{eqb}
+use lib.ListN.{getD, drop}
+use Rattle.err.specs.Outcome.{Outcome, refused, accepted, none, between, decoded}
+use Rattle.scan.specs.Run.{run}
+use Rattle.scan.specs.Sets.{only}
+use Rattle.escape.specs.declared.Allowed.{Allowed}
+use Rattle.body.specs.Body.{body, rawBody}
+use Rattle.body.specs.Quote.{Quote, quoteOf, stringOf, rawOf}
+use Rattle.body.specs.Quote as quote
+use Rattle.body.specs.declared.Quoted.{Quoted}
+use Rattle.string.specs.declared.Kind.{Kind}
+use Rattle.string.specs.declared.Kind.the-variants.{Text, Bytes, C}
+use Rattle.string.specs.declared.Opening.{Opening}
+use Rattle.string.specs.declared.Opening.the-variants as opening
+
+-- 01: string is kind 5, byte string 7, C string 8
+abbrev pub kindOf : Kind → ℕ
+kindOf Text = 5
+kindOf Bytes = 7
+kindOf C = 8
+
+-- where the body or the hashes start: behind `"` or `r`, behind `b"` or `br`, behind `c"` or `cr`
+abbrev pub offsetOf : Kind → ℕ
+offsetOf Text = 1
+offsetOf Bytes = 2
+offsetOf C = 2
+
+-- the arguments that litrs gives `unescape_string` and `scan_raw_string`: a byte string has no Unicode, a C string no NUL
+abbrev pub allowedIn : Kind → Allowed
+allowedIn Text = record { unicode = true; «byte_escapes» = false; «allow_nul» = true }
+allowedIn Bytes = record { unicode = false; «byte_escapes» = true; «allow_nul» = true }
+allowedIn C = record { unicode = true; «byte_escapes» = true; «allow_nul» = false }
+
+-- `"` or `r`
+unfoldable pub openingBy : ℕ → Opening
+openingBy b = cond (eqb b 34) opening.Quoted (cond (eqb b 114) opening.Raw opening.Neither)
+
+-- the kind's letter, if it has one, and `"` or `r`
+abbrev pub openingAt : Kind → List ℕ → Opening
+openingAt Text s = openingBy (getD s 0 0)
+openingAt Bytes s = cond (eqb (getD s 0 0) 98) (openingBy (getD s 1 0)) opening.Neither
+openingAt C s = cond (eqb (getD s 0 0) 99) (openingBy (getD s 1 0)) opening.Neither
+
+-- another start: 31 at 0-1, 33, 34
+abbrev pub startFault : Kind → Outcome
+startFault Text = refused 31 (between 0 1)
+startFault Bytes = refused 33 none
+startFault C = refused 34 none
+
+-- the answer of a body as one of the kind
+abbrev pub ofQuote : Kind → Quote → Outcome
+ofQuote k (quote.quoted r start len) = accepted (kindOf k) start (decoded r len)
+ofQuote k (quote.refused n p) = refused n p
+
+-- document 01's numbers and values for each case
+abbrev pub parsedOf : Kind → Quoted → Outcome
+parsedOf k q = ofQuote k (quoteOf q)
+
+abbrev pub readBy : Kind → Opening → List ℕ → Outcome
+readBy k opening.Quoted s = ofQuote k (stringOf (allowedIn k) (offsetOf k) s)
+readBy k opening.Raw s = ofQuote k (rawOf (allowedIn k) (offsetOf k) s)
+readBy k opening.Neither s = startFault k
+
+-- of any text: no bytes are 1
+unfoldable pub stringRead : Kind → List ℕ → Outcome
+stringRead k [] = refused 1 none
+stringRead k (b ∷ s) = readBy k (openingAt k (b ∷ s)) (b ∷ s)
+
+-- ---- the value
+
+-- how many hashes stand at an offset
+abbrev pub hashesAt : List ℕ → ℕ → ℕ
+hashesAt s at = run (only 35) (drop at s)
+
+abbrev pub valueBy : Kind → Opening → List ℕ → List ℕ
+valueBy k opening.Quoted s = body (allowedIn k) (drop (offsetOf k) s) .value
+valueBy k opening.Raw s = rawBody (allowedIn k) (hashesAt s (offsetOf k)) (drop (offsetOf k + hashesAt s (offsetOf k) + 1) s) .value
+valueBy k opening.Neither s = []
+
+-- the decoded bytes of an accepted text. 01: "A C value has no closing zero byte."
+unfoldable pub stringValue : Kind → List ℕ → List ℕ
+stringValue k s = valueBy k (openingAt k s) s
