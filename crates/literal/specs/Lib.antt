@@ -1,3 +1,5 @@
 pub mod Checks
 pub mod Values
 pub mod Suffixes
+pub mod Readings
+pub mod Decodes

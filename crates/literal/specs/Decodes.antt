@@ -1,0 +1,44 @@
+-- What decoding by entry code answers, and what the lent buffer holds then.
+-- Assumes nothing.
+use Prim.Native.Nat.{ℕ}
+use mathlib.Core.Bool.{cond}
+use mathlib.Core.List.{List}
+use lib.Dec.{eqb}
+use Rattle.err.specs.Outcome.{none}
+use Rattle.string.specs.Decode.{Decode, withheld, stringDecoded, bufferAfter}
+use Rattle.string.specs.declared.Kind.{Kind}
+use Rattle.string.specs.declared.Kind.the-variants.{Text, Bytes, C}
+use Rattle.literal.specs.Checks.{textFault}
+use Rattle.literal.specs.declared.KindFound.{KindFound}
+use Rattle.literal.specs.declared.KindFound.the-variants as found
+
+-- 43 and 44, then the reading's own refusals, then 48
+unfoldable pub checkedDecode : Kind → List ℕ → ℕ → Decode
+checkedDecode k s have = cond (eqb (textFault s) 0) (stringDecoded k s have) (withheld (textFault s) none)
+
+unfoldable pub checkedBuffer : Kind → List ℕ → List ℕ → List ℕ
+checkedBuffer k s buf = cond (eqb (textFault s) 0) (bufferAfter k s buf) buf
+
+-- "Decoded bytes of kinds 5, 7, 8": the kind of a code
+unfoldable pub kindCoded : ℕ → KindFound
+kindCoded code =
+    cond (eqb code 5) (found.Kind Text)
+    (cond (eqb code 7) (found.Kind Bytes)
+    (cond (eqb code 8) (found.Kind C)
+    found.Nothing))
+
+abbrev pub decodeBy : KindFound → List ℕ → ℕ → Decode
+decodeBy (found.Kind k) s have = checkedDecode k s have
+decodeBy found.Nothing s have = withheld 42 none
+
+abbrev pub bufferBy : KindFound → List ℕ → List ℕ → List ℕ
+bufferBy (found.Kind k) s buf = checkedBuffer k s buf
+bufferBy found.Nothing s buf = buf
+
+-- "(other codes 42; ..)", before anything else
+unfoldable pub decodeAt : ℕ → List ℕ → ℕ → Decode
+decodeAt code s have = decodeBy (kindCoded code) s have
+
+-- the whole buffer at exit
+unfoldable pub bufferAt : ℕ → List ℕ → List ℕ → List ℕ
+bufferAt code s buf = bufferBy (kindCoded code) s buf

@@ -1,0 +1,67 @@
+-- What reading by entry code answers: litrs's `parse` (src/parse.rs) for entry 0, each kind's own `parse` for entries 1 to 8.
+-- Assumes nothing.
+use Prim.Native.Nat.{ℕ}
+use mathlib.Core.Bool.{Bool, cond, _||_}
+use mathlib.Core.List.{List, [], _∷_}
+use lib.Dec.{eqb, leb}
+use lib.ListN.{getD}
+use Rattle.err.specs.Outcome.{Outcome, refused, none}
+use Rattle.scan.specs.Run.{run}
+use Rattle.parse.specs.Sets.{digit, decDigit, startsE}
+use Rattle.boolean.specs.Bool.{boolRead}
+use Rattle.integer.specs.Integer.{integerRead}
+use Rattle.float.specs.Float.{floatRead}
+use Rattle.character.specs.Single.{charRead, byteRead}
+use Rattle.string.specs.String.{stringRead}
+use Rattle.string.specs.declared.Kind.the-variants.{Text, Bytes, C}
+use Rattle.literal.specs.Checks.{textFault}
+
+-- 01, Floats: "Entry 0 picks float when the first byte after the leading digits and `_` is `.`, `e` or `E`."
+unfoldable pub startsFloat : List ℕ → Bool
+startsFloat s = eqb (getD s (run (digit 10) s) 0) 46 || startsE s (run (digit 10) s)
+
+unfoldable pub numberRead : List ℕ → Outcome
+numberRead s = cond (startsFloat s) (floatRead s) (integerRead s)
+
+-- behind `b`: a quote makes it a byte, `r` or a double quote a byte string; anything else is 3
+unfoldable pub byteOrStringRead : List ℕ → Outcome
+byteOrStringRead s =
+    cond (eqb (getD s 1 0) 39) (byteRead s)
+    (cond (eqb (getD s 1 0) 114 || eqb (getD s 1 0) 34) (stringRead Bytes s)
+    (refused 3 none))
+
+-- by the first byte. `f` and `t` start a bool or nothing (which is 3, as `BoolLit::parse` has it); `c` always goes to the C string
+unfoldable pub anyBy : ℕ → List ℕ → Outcome
+anyBy b s =
+    cond (decDigit b) (numberRead s)
+    (cond (eqb b 102 || eqb b 116) (boolRead s)
+    (cond (eqb b 39) (charRead s)
+    (cond (eqb b 34 || eqb b 114) (stringRead Text s)
+    (cond (eqb b 98) (byteOrStringRead s)
+    (cond (eqb b 99) (stringRead C s)
+    (refused 3 none))))))
+
+-- entry 0: no bytes are 1
+unfoldable pub anyRead : List ℕ → Outcome
+anyRead [] = refused 1 none
+anyRead (b ∷ s) = anyBy b (b ∷ s)
+
+-- 01: "Entry codes: 0 `parse`, 1 bool, 2 integer, 3 float, 4 char, 5 string, 6 byte, 7 byte string, 8 C string."
+unfoldable pub entryRead : ℕ → List ℕ → Outcome
+entryRead code s =
+    cond (eqb code 0) (anyRead s)
+    (cond (eqb code 1) (boolRead s)
+    (cond (eqb code 2) (integerRead s)
+    (cond (eqb code 3) (floatRead s)
+    (cond (eqb code 4) (charRead s)
+    (cond (eqb code 5) (stringRead Text s)
+    (cond (eqb code 6) (byteRead s)
+    (cond (eqb code 7) (stringRead Bytes s)
+    (stringRead C s))))))))
+
+-- 01, Order: 42, 43, 44, then litrs's own
+unfoldable pub readAt : ℕ → List ℕ → Outcome
+readAt code s =
+    cond (leb code 8)
+    (cond (eqb (textFault s) 0) (entryRead code s) (refused (textFault s) none))
+    (refused 42 none)
