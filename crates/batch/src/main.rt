@@ -7,7 +7,7 @@ use err::StringLit;
 use integer::IntegerValue;
 use libc::STDIN_FILENO;
 use libc::STDOUT_FILENO;
-use literal::Checked;
+use string::Decoded;
 ghost use mathlib.Core.Path.{_≡_};
 ghost use Prim.Native.Nat.{_≤_, _<_};
 ghost use lib.ListN.{length};
@@ -182,46 +182,106 @@ fn answer_words(line: &mut [u8], words: &[u8])
     write_line(line, at);
 }
 
-// The reading of a checked text by entry 1, 2 or 3.
-fn number_entry(line: &mut [u8], code: u8, text: &[u8])
-    ensures { λ r. ⌜ length (now (line .exit)) ≡ length (now (line .entry)) ⌝ }
+// Every byte of a buffer from an offset on is 165 still.
+fn is_kept(out: &[u8], from: usize) -> bool {
+    let mut i = from;
+    while i < out.len() {
+        if out[i] != 165 {
+            return false;
+        }
+        i += 1;
+    }
+    true
+}
+
+fn fill(out: &mut [u8])
+    ensures { λ r. ⌜ length (now (out .exit)) ≡ length (now (out .entry)) ⌝ }
 {
-    match code {
-        1 => answer_reading(line, boolean::parse(text)),
-        2 => answer_reading(line, integer::parse(text)),
-        _ => answer_reading(line, float::parse(text)),
+    let mut i = 0;
+    while i < out.len() {
+        out[i] = 165;
+        i += 1;
     }
 }
 
-fn checked_entry(line: &mut [u8], code: u8, text: &[u8])
-    ensures { λ r. ⌜ length (now (line .exit)) ≡ length (now (line .entry)) ⌝ }
+// Some bytes in hexadecimal, `-` where there are none.
+fn write_hex(hex: &mut [u8], bytes: &[u8])
+    ensures { λ r. ⌜ length (now (hex .exit)) ≡ length (now (hex .entry)) ⌝ }
 {
-    let checked = literal::check_text(text);
-    match checked {
-        Checked::Good => number_entry(line, code, text),
-        Checked::Bad(kind) => answer_reading(line, err::perr_nowhere(kind)),
+    if bytes.len() == 0 {
+        io::write_all(STDOUT_FILENO, b"-");
+        return;
+    }
+    let mut at: usize = 0;
+    let mut i = 0;
+    while i < bytes.len() {
+        if hex.len() - at < 2 {
+            return;
+        }
+        buffer::put_hex(&mut hex[at..], bytes[i]);
+        at += 2;
+        i += 1;
+    }
+    io::write_all(STDOUT_FILENO, &hex[0..at]);
+}
+
+// The first bytes of a buffer in hexadecimal.
+fn write_front(hex: &mut [u8], out: &[u8], n: usize)
+    ensures { λ r. ⌜ length (now (hex .exit)) ≡ length (now (hex .entry)) ⌝ }
+{
+    if out.len() < n {
+        return;
+    }
+    write_hex(hex, &out[0..n]);
+}
+
+// The end of a line: whether the buffer behind its first bytes is as it was.
+fn write_kept(out: &[u8], from: usize) {
+    if is_kept(out, from) {
+        io::write_all(STDOUT_FILENO, b" kept\n");
+    } else {
+        io::write_all(STDOUT_FILENO, b" changed\n");
     }
 }
 
-// Reading by entry code. Entry 0 and entries 4 to 8 are not there yet.
-fn reading(line: &mut [u8], code: u8, text: &[u8])
-    ensures { λ r. ⌜ length (now (line .exit)) ≡ length (now (line .entry)) ⌝ }
+// The line of a decoding into a buffer that was lent.
+fn answer_decoded(line: &mut [u8], hex: &mut [u8], d: Decoded, out: &[u8])
+    ensures { λ r. ⌜ (length (now (line .exit)) ≡ length (now (line .entry))) × (length (now (hex .exit)) ≡ length (now (hex .entry))) ⌝ }
 {
-    match code {
-        1..=3 => checked_entry(line, code, text),
-        0 => answer_words(line, b"bad operation"),
-        4..=8 => answer_words(line, b"bad operation"),
-        _ => answer_reading(line, err::perr_nowhere(ParseErrorKind::BadCode)),
+    match d {
+        Decoded::Refused(kind, span) => {
+            let at = add_refusal(line, kind, span);
+            io::write_all(STDOUT_FILENO, &line[0..at]);
+            write_kept(out, 0);
+        }
+        Decoded::Written(n) => {
+            let start = add(line, 0, b"ok");
+            let next = add_offset(line, start, n);
+            let at = add(line, next, b" ");
+            io::write_all(STDOUT_FILENO, &line[0..at]);
+            write_front(hex, out, n);
+            write_kept(out, n);
+        }
     }
 }
 
-// One record's line.
-fn operation(line: &mut [u8], letter: u8, code: u8, text: &[u8])
-    ensures { λ r. ⌜ length (now (line .exit)) ≡ length (now (line .entry)) ⌝ }
+// Decoding by entry code, into a lent buffer that was filled.
+fn decoding(line: &mut [u8], hex: &mut [u8], code: u8, text: &[u8], out: &mut [u8])
+    ensures { λ r. ⌜ (length (now (line .exit)) ≡ length (now (line .entry))) × (length (now (hex .exit)) ≡ length (now (hex .entry))) × (length (now (out .exit)) ≡ length (now (out .entry))) ⌝ }
+{
+    fill(out);
+    let d = literal::decode(code as u64, text, out);
+    answer_decoded(line, hex, d, out);
+}
+
+// One record's line. The buffer is as long as the record lends it.
+fn operation(line: &mut [u8], hex: &mut [u8], letter: u8, code: u8, text: &[u8], out: &mut [u8])
+    ensures { λ r. ⌜ (length (now (line .exit)) ≡ length (now (line .entry))) × (length (now (hex .exit)) ≡ length (now (hex .entry))) × (length (now (out .exit)) ≡ length (now (out .entry))) ⌝ }
 {
     match letter {
-        b'R' => reading(line, code, text),
+        b'R' => answer_reading(line, literal::read(code as u64, text)),
         b'V' => answer_value(line, literal::value(code as u64, text)),
+        b'D' => decoding(line, hex, code, text, out),
         b'I' => answer_number(line, literal::integer_from_suffix(text) as u64),
         b'F' => answer_number(line, literal::float_from_suffix(text) as u64),
         _ => answer_words(line, b"bad operation"),
@@ -240,8 +300,8 @@ fn number_at(head: &[u8; 10], at: usize) -> usize
 }
 
 // One record, answered: whether there may be another.
-fn record(line: &mut [u8], text: &mut [u8]) -> bool
-    ensures { λ r. ⌜ length (now (line .exit)) ≡ length (now (line .entry)) ⌝ }
+fn record(line: &mut [u8], hex: &mut [u8], text: &mut [u8], out: &mut [u8]) -> bool
+    ensures { λ r. ⌜ (length (now (line .exit)) ≡ length (now (line .entry))) × (length (now (hex .exit)) ≡ length (now (hex .entry))) × (length (now (text .exit)) ≡ length (now (text .entry))) × (length (now (out .exit)) ≡ length (now (out .entry))) ⌝ }
 {
     let mut head = [0u8; 10];
     let got = io::read_full(STDIN_FILENO, &mut head);
@@ -254,7 +314,7 @@ fn record(line: &mut [u8], text: &mut [u8]) -> bool
         answer_words(line, b"bad record");
         return false;
     }
-    if 65600 < lent {
+    if out.len() < lent {
         answer_words(line, b"bad record");
         return false;
     }
@@ -267,19 +327,21 @@ fn record(line: &mut [u8], text: &mut [u8]) -> bool
         answer_words(line, b"bad record");
         return false;
     }
-    operation(line, head[0], head[1], &text[0..n]);
+    operation(line, hex, head[0], head[1], &text[0..n], &mut out[0..lent]);
     true
 }
 
-fn records(line: &mut [u8], text: &mut [u8]) {
+fn records(line: &mut [u8], hex: &mut [u8], text: &mut [u8], out: &mut [u8]) {
     let mut turns = u64::MAX;
-    while turns > 0 && record(line, text) {
+    while turns > 0 && record(line, hex, text, out) {
         turns -= 1;
     }
 }
 
 fn main() {
     let mut line = [0u8; 256];
+    let mut hex = [0u8; 131200];
     let mut text = [0u8; 65600];
-    records(&mut line, &mut text);
+    let mut out = [0u8; 65600];
+    records(&mut line, &mut hex, &mut text, &mut out);
 }
