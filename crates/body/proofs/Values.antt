@@ -14,13 +14,24 @@ use Rattle.utf8.specs.Cut.{front}
 use Rattle.escape.specs.Escape.{Escaped, value, bad, escapeOf}
 use Rattle.escape.specs.declared.Allowed.{Allowed}
 use Rattle.escape.specs.declared.Unescaped.{Unescaped}
-use Rattle.escape.specs.declared.Unescaped.the-variants.{Byte, Unicode}
+use Rattle.escape.specs.declared.Unescaped.the-variants.{Nothing, Byte, Unicode}
 use Rattle.escape.proofs.Values.{Unwraps, EscapeUnwraps, escape-unwraps}
 use Rattle.body.specs.Step.{Next, piece, stop, ofEscape, lineBreakOf, backslashOf, plainOf, stepOf}
 
+-- a dropped line break stands for nothing; any other value can be unwrapped
+abbrev pub PieceUnwraps : Allowed → Unescaped → Type 0
+PieceUnwraps k Nothing = Unit {0}
+PieceUnwraps k (Byte b) = Unwraps k (Byte b)
+PieceUnwraps k (Unicode c) = Unwraps k (Unicode c)
+
+escape-piece : (k : Allowed) (u : Unescaped) → Unwraps k u → PieceUnwraps k u
+escape-piece k Nothing h = tt
+escape-piece k (Byte b) h = h
+escape-piece k (Unicode c) h = h
+
 -- a piece that starts with a backslash can be unwrapped, and any other is its first byte
 abbrev pub StepUnwraps : Allowed → List ℕ → Next → Type 0
-StepUnwraps k s (piece n u) = (getD s 0 0 ≡ 92 → Unwraps k u) × ((getD s 0 0 ≡ 92 → ⊥) → u ≡ Byte (getD s 0 0))
+StepUnwraps k s (piece n u) = (getD s 0 0 ≡ 92 → PieceUnwraps k u) × ((getD s 0 0 ≡ 92 → ⊥) → u ≡ Byte (getD s 0 0))
 StepUnwraps k s (stop e) = Unit {0}
 
 backslash-unwraps : (k : Allowed) (b : ℕ) (s : List ℕ) → b ≡ 92 → StepUnwraps k (b ∷ s) (backslashOf k (b ∷ s))
@@ -33,7 +44,7 @@ backslash-unwraps k b s is =
     (λ e. of-escape (escapeOf k (front (b ∷ s))) (escape-unwraps k (front (b ∷ s))))
   where
     of-escape : (e : Escaped) → EscapeUnwraps k e → StepUnwraps k (b ∷ s) (ofEscape e)
-    of-escape (value u n) h = ((λ x. h), (λ x. absurd (x is)))
+    of-escape (value u n) h = ((λ x. escape-piece k u h), (λ x. absurd (x is)))
     of-escape (bad num p) h = tt
 
 plain-unwraps : (k : Allowed) (b : ℕ) (s : List ℕ) → (b ≡ 92 → ⊥) → StepUnwraps k (b ∷ s) (plainOf k b)

@@ -65,10 +65,10 @@ abbrev Taken : Quote → List ℕ → Outcome → Type 0
 Taken q s o = (k start : ℕ) (v : Values) → o ≡ accepted k start v → Tiles q s k start v
 
 escape-worth : (q : Quote) (u : Unescaped) → Unwraps (allowedIn q) u → Worth q (scalarOf u)
-escape-worth Char unescaped.Nothing h = inl (omega arith)
+escape-worth Char unescaped.Nothing h = absurd h
 escape-worth Char (unescaped.Byte b) h = inl (omega (arith, h .1 refl))
 escape-worth Char (unescaped.Unicode c) h = h .0
-escape-worth Byte unescaped.Nothing h = omega arith
+escape-worth Byte unescaped.Nothing h = absurd h
 escape-worth Byte (unescaped.Byte b) h = h .0
 escape-worth Byte (unescaped.Unicode c) h = clash (h .1) refl
 

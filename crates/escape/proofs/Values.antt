@@ -21,10 +21,10 @@ use Rattle.escape.specs.declared.Unescaped.the-variants.{Nothing, Byte, 
 use Rattle.escape.specs.Escape.{Escaped, value, bad, letterOf, xByte, xEscape, Hex, number, fault, hexFrom, isScalar, uScalar, badStart, uHex, uInner, uBraced, uEscape, escapeBy, escapeOf}
 use Rattle.escape.proofs.Within.{scalar-right}
 
--- A byte value is a byte, and below 128 where the kind has no byte escapes (`unwrap_char`). A character is a scalar value, and there is
+-- An escape is never a dropped line break. A byte value is a byte, and below 128 where the kind has no byte escapes (`unwrap_char`). A character is a scalar value, and there is
 -- one only where the kind has Unicode escapes (`unwrap_byte`).
 abbrev pub Unwraps : Allowed → Unescaped → Type 0
-Unwraps k Nothing = Unit {0}
+Unwraps k Nothing = ⊥
 Unwraps k (Byte b) = (b < 256) × (k .«byte_escapes» ≡ false → b < 128)
 Unwraps k (Unicode c) = Scalar c × (k .unicode ≡ true)
 
