@@ -1,4 +1,4 @@
-// The calls that a user makes. Each takes any code and any bytes, and answers in the order 42, 43, 44, litrs's own, 45 or 48.
+// The calls that a user makes, of any code and any bytes. A refusal is the first of 42, 43, 44, litrs's own, 45 or 48.
 use err::ParseErrorKind;
 use err::Reading;
 use err::Span;
