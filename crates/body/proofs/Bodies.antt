@@ -10,8 +10,8 @@ use lib.Seq.{drop-drop}
 use Rattle.escape.specs.Escape.{bytesOf, Valid}
 use Rattle.escape.specs.declared.Unescaped.{Unescaped}
 use Rattle.body.specs.Step.{End, close, Next, piece, stop}
-use Rattle.body.specs.Body.{EndFits, Body, push, follow, bodyFrom, bodyBy}
-use Rattle.body.proofs.Within.{NextIn}
+use Rattle.body.specs.Body.{Body, push, follow, bodyFrom, bodyBy}
+use Rattle.body.proofs.Within.{EndIn, NextIn}
 
 pub push-push : (i n : ℕ) (v w : List ℕ) (b : Body) → push i v (push n w b) ≡ push (i + n) (v ++ w) b
 push-push i n v w b = rw (add-assoc, append-assoc)
@@ -75,18 +75,18 @@ module _ (step : List ℕ → Next) where
         go zero s l = by s (step s) refl (good s) (λ n p w. absurd (omega arith))
         go (suc m) s l = by s (step s) refl (good s) (λ n p w. go m (drop n s) (omega (arith, length-drop n s)))
 
-    -- a body ends in the text, and so does what closes it or a refusal's span
-    pub ends-in : (s : List ℕ) → (bodyBy step s .at ≤ length s) × EndFits q (length s - bodyBy step s .at) (bodyBy step s .end)
+    -- a body ends in the text, and so does what closes it or a refusal
+    pub ends-in : (s : List ℕ) → (bodyBy step s .at ≤ length s) × EndIn q (length s - bodyBy step s .at) (bodyBy step s .end)
     ends-in s =
-        induct (λ s b. (b .at ≤ length s) × EndFits q (length s - b .at) (b .end))
+        induct (λ s b. (b .at ≤ length s) × EndIn q (length s - b .at) (b .end))
         (λ s e h. (
           omega arith,
-          subst (λ (m : ℕ). EndFits q m e) (omega arith) (subst (λ (x : Next). NextIn q (length s) x) h (good s)),
+          subst (λ (m : ℕ). EndIn q m e) (omega arith) (subst (λ (x : Next). NextIn q (length s) x) h (good s)),
         ))
         (λ s n u h p w r.
         let d = length-drop n s in (
           omega (arith, r .0),
-          subst (λ (m : ℕ). EndFits q m (bodyBy step (drop n s) .end)) (omega (arith, r .0)) (r .1),
+          subst (λ (m : ℕ). EndIn q m (bodyBy step (drop n s) .end)) (omega (arith, r .0)) (r .1),
         ))
         s
 

@@ -9,3 +9,4 @@ pub mod Complete
 pub mod Sound
 pub mod Exact
 pub mod Examples
+pub mod Contents

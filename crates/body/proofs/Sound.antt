@@ -2,154 +2,36 @@
 -- Assumes nothing.
 use mathlib.Core.Path.{_≡_, refl, ap, sym, _∙_, subst}
 use mathlib.Core.Logic.{_⊎_, inl, inr}
-use mathlib.Core.Bool.{Bool, true, false, not, _&&_}
-use mathlib.Core.List.{List, [], _∷_, _++_, append-assoc, append-nil}
-use Prim.Native.Nat.{ℕ, zero, suc, _+_, _*_, _-_, _≤_, _<_}
+use mathlib.Core.Bool.{not, _&&_}
+use mathlib.Core.List.{List, [], _∷_, _++_}
+use Prim.Native.Nat.{ℕ, zero, suc, _+_, _-_}
 use native.Mathlib.Omega.{arith}
-use borrow.Author.Tests.{eqb-true, ltb-true, not-false}
 use lib.Dec.{eqb, ltb}
 use lib.ListN.{length, getD, take, drop, length-take}
-use lib.Seq.{length-take-le, take-suc, take-take, take-add, getD-drop, drop-cons}
+use lib.Seq.{take-take, take-add, getD-drop}
 use Rattle.scan.specs.Run.{run, All, Stops}
-use Rattle.scan.specs.Sets.{except, only}
-use Rattle.scan.proofs.Cases.{cond-in, cond-eq, cond-lt, clash}
-use Rattle.scan.proofs.Runs.{run-le, run-all, run-stops}
-use Rattle.parse.specs.Class.{classOf}
+use Rattle.scan.proofs.Cases.{cond-in, cond-eq}
+use Rattle.scan.proofs.Runs.{run-all, run-stops}
 use Rattle.parse.specs.Sets.{blank}
-use Rattle.parse.proofs.Classes.{both}
-use Rattle.utf8.specs.Cut.{isBoundary, lastLen, front}
-use Rattle.escape.specs.Escape.{Escaped, value, bad, bytesOf, letterOf, xByte, xEscape, Hex, number, fault, hexFrom, isScalar, uScalar, badStart, uHex, uInner, uBraced, uEscape, escapeBy, escapeOf}
+use Rattle.utf8.specs.Cut.{lastLen, front}
+use Rattle.escape.specs.Escape.{Escaped, value, bad, bytesOf, escapeOf}
+use Rattle.escape.specs.Pieces.{Esc}
 use Rattle.escape.specs.declared.Allowed.{Allowed}
 use Rattle.escape.specs.declared.Unescaped.{Unescaped}
 use Rattle.escape.specs.declared.Unescaped.the-variants.{Nothing, Byte}
-use Rattle.escape.proofs.Within.{EscapeIn, escape-in, boundary-in}
+use Rattle.escape.proofs.Within.{EscapeIn, escape-in}
+use Rattle.escape.proofs.Exact.{Escapes, escape-sound}
 use Rattle.body.specs.Step.{close, refuse, Next, piece, stop, ofEscape, lineBreakOf, backslashOf, plainOf, stepOf}
 use Rattle.body.specs.Body.{body}
 use Rattle.body.specs.Pieces as pieces
-use Rattle.body.proofs.Complete.{all-append}
 use Rattle.body.proofs.Within.{step-in}
 use Rattle.body.proofs.Bodies.{induct}
 
--- ---- digits
-
--- one more underscore
-snoc : {n : ℕ} {d : List ℕ} {v : ℕ} (x : ℕ) → only 95 x ≡ true → pieces.Hexes n d v → pieces.Hexes n (d ++ (x ∷ [])) v
-snoc x u (pieces.one b us h a e f) =
-    pieces.one b (us ++ (x ∷ [])) h (all-append (only 95) us (x ∷ []) a (u, tt)) (ap (λ (l : List ℕ). l ++ (x ∷ [])) e) f
-snoc x u (pieces.more {d = d} b us m h a e f) =
-    pieces.more b (us ++ (x ∷ [])) m h (all-append (only 95) us (x ∷ []) a (u, tt))
-    (ap (λ (l : List ℕ). l ++ (x ∷ [])) e ∙ append-assoc d (b ∷ us) (x ∷ [])) f
-
-abbrev Digits : List ℕ → Hex → Type 0
-Digits d (number w) = (m : ℕ) × (m ≤ 6) × pieces.Hexes m d w
-Digits d (fault num i) = Unit {0}
-
-digits-on : (s p : List ℕ) (i n v : ℕ) → pieces.Hexes n p v → n ≤ 6 → Digits (p ++ s) (hexFrom i n v s)
-unfolding only
-digits-on [] p i n v h l = (n, l, rw append-nil h)
-digits-on (b ∷ s) p i n v h l =
-    let P : Hex → Type 0 = Digits (p ++ (b ∷ s)) in
-    let joined : (p ++ (b ∷ [])) ++ s ≡ p ++ (b ∷ s) = append-assoc p (b ∷ []) s in
-    cond-in P (eqb b 95) (λ e. rw joined at (digits-on s (p ++ (b ∷ [])) (i + 1) n v (snoc b e h) l)) λ e.
-    cond-lt P (classOf b) 16
-    (λ f. cond-eq P n 6 (λ g. tt) λ g.
-    rw joined at (digits-on s (p ++ (b ∷ [])) (i + 1) (n + 1) (16 * v + classOf b) (pieces.more b [] h f tt refl refl) (omega arith)))
-    (λ f. tt)
-
-digits : (d : List ℕ) → badStart d ≡ false → Digits d (hexFrom 0 0 0 d)
-unfolding badStart
-digits [] h = clash refl h
-digits (b ∷ s) h =
-    let P : Hex → Type 0 = Digits (b ∷ s) in
-    cond-in P (eqb b 95) (λ e. clash e h) λ e.
-    cond-lt P (classOf b) 16
-    (λ f. digits-on s (b ∷ []) (0 + 1) (0 + 1) (16 * 0 + classOf b) (pieces.one b [] f tt refl (omega arith)) (omega arith))
-    (λ f. tt)
-
--- where a run stops short of the end
-run-stopped : (p : ℕ → Bool) (s : List ℕ) → (run p s ≡ length s → ⊥) → (run p s < length s) × (p (getD s (run p s) 0) ≡ false)
-run-stopped p s h =
-    let l : run p s < length s = omega (arith, run-le p s) in
-    (l, subst (λ (r : List ℕ). Stops p r) (drop-cons s (run p s) 0 l) (run-stops p s))
-
--- ---- one escape
-
--- the brace behind the digits
-closed : (r : List ℕ) → (run (except 125) r + 3 ≡ suc (suc (suc (length r))) → ⊥)
-    → (run (except 125) r < length r) × (getD r (run (except 125) r) 0 ≡ 125)
-unfolding except
-closed r h =
-    let st = run-stopped (except 125) r (λ x. h (omega arith)) in
-    (st .0, eqb-true _ 125 (not-false _ (st .1)))
-
-braced : (c : ℕ) (r : List ℕ) (n : ℕ) → c ≡ 123 → n < length r → getD r n 0 ≡ 125
-    → take (length (take n r) + 4) (92 ∷ 117 ∷ c ∷ r) ≡ 92 ∷ 117 ∷ 123 ∷ (take n r ++ (125 ∷ []))
-braced c r n e l brace =
-    let four : length (take n r) + 4 ≡ suc (suc (suc (suc n))) = omega (arith, length-take-le n r (omega arith)) in
-    rw (four, take-suc r n 0 l, e, brace)
-
 module _ (k : Allowed) where
-  -- the bytes of an escape are one of the pieces
-  abbrev pub Escapes : List ℕ → Escaped → Type 0
-  Escapes s (value u n) = pieces.Esc k (take n s) u
-  Escapes s (bad num p) = Unit {0}
-
-  x-sound : (s : List ℕ) → Escapes (92 ∷ 120 ∷ s) (xEscape k (92 ∷ 120 ∷ s))
-  unfolding xEscape xByte
-  x-sound [] =
-      cond-in (Escapes (92 ∷ 120 ∷ [])) (isBoundary (92 ∷ 120 ∷ []) 4) (λ e. absurd (omega (arith, boundary-in (92 ∷ 120 ∷ []) 4 e))) (λ e. tt)
-  x-sound (a ∷ []) =
-      cond-in (Escapes (92 ∷ 120 ∷ a ∷ [])) (isBoundary (92 ∷ 120 ∷ a ∷ []) 4)
-      (λ e. absurd (omega (arith, boundary-in (92 ∷ 120 ∷ a ∷ []) 4 e))) (λ e. tt)
-  x-sound (a ∷ b ∷ s) =
-      let P : Escaped → Type 0 = Escapes (92 ∷ 120 ∷ a ∷ b ∷ s) in
-      let v : ℕ = classOf b + 16 * classOf a in
-      cond-in P (isBoundary (92 ∷ 120 ∷ a ∷ b ∷ s) 4) (λ e.
-      cond-in P (ltb (classOf a) 16 && ltb (classOf b) 16) (λ f.
-      let d = both (ltb (classOf a) 16) (ltb (classOf b) 16) f in
-      cond-in P (not (k .«byte_escapes») && ltb 127 v) (λ g. tt) λ g.
-      cond-in P (not (k .«allow_nul») && eqb v 0) (λ h. tt) λ h.
-      pieces.hex a b (ltb-true (classOf a) 16 (d .0)) (ltb-true (classOf b) 16 (d .1)) g h) λ f. tt) λ e. tt
-
-  of-hex : (s d : List ℕ) (n : ℕ) (h : Hex) → k .unicode ≡ true → take n s ≡ 92 ∷ 117 ∷ 123 ∷ (d ++ (125 ∷ [])) → Digits d h
-      → Escapes s (uHex k n h)
-  unfolding uScalar
-  of-hex s d n (number v) u e (m, l, x) =
-      cond-in (Escapes s) (not (k .«allow_nul») && eqb v 0) (λ f. tt) λ f.
-      cond-in (Escapes s) (isScalar v) (λ g. pieces.uni u x l f g e) (λ g. tt)
-  of-hex s d n (fault num i) u e x = tt
-
-  u-sound : (s : List ℕ) → Escapes (92 ∷ 117 ∷ s) (uEscape k (92 ∷ 117 ∷ s))
-  unfolding uEscape uBraced uInner
-  u-sound [] = cond-in (Escapes (92 ∷ 117 ∷ [])) (k .unicode) (λ u. tt) (λ u. tt)
-  u-sound (c ∷ r) =
-      let P : Escaped → Type 0 = Escapes (92 ∷ 117 ∷ c ∷ r) in
-      let n : ℕ = run (except 125) r in
-      let d : List ℕ = take n r in
-      cond-in P (k .unicode) (λ u.
-      cond-eq P c 123 (λ e.
-      cond-eq P (n + 3) (suc (suc (suc (length r)))) (λ f. tt) λ f.
-      let at = closed r f in
-      cond-in P (badStart d) (λ g. tt) λ g.
-      of-hex (92 ∷ 117 ∷ c ∷ r) d (length d + 4) (hexFrom 0 0 0 d) u (braced c r n e (at .0) (at .1)) (digits d g)) λ e. tt) λ u. tt
-
-  -- what an escape's reading takes is an escape of the pieces
-  pub escape-sound : (s : List ℕ) → Escapes (92 ∷ s) (escapeOf k (92 ∷ s))
-  unfolding escapeOf escapeBy
-  escape-sound [] = tt
-  escape-sound (b ∷ s) =
-      let P : Escaped → Type 0 = Escapes (92 ∷ b ∷ s) in
-      cond-in P (ltb (length (92 ∷ b ∷ s)) 2) (λ e. tt) λ e.
-      cond-eq P (letterOf b) 0 (λ f.
-      cond-eq P b 48 (λ g. cond-in P (k .«allow_nul») (λ a. subst (λ (x : ℕ). pieces.Esc k (92 ∷ x ∷ []) (Byte 0)) (sym g) (pieces.nul a)) (λ a. tt)) λ g.
-      cond-eq P b 120 (λ x. subst (λ (x : ℕ). Escapes (92 ∷ x ∷ s) (xEscape k (92 ∷ x ∷ s))) (sym x) (x-sound s)) λ x.
-      cond-eq P b 117 (λ u. subst (λ (x : ℕ). Escapes (92 ∷ x ∷ s) (uEscape k (92 ∷ x ∷ s))) (sym u) (u-sound s)) λ u. tt) λ f.
-      pieces.letter b f
-
-  seen-sound : (m : ℕ) (s : List ℕ) → Escapes (take m (92 ∷ s)) (escapeOf k (take m (92 ∷ s)))
+  seen-sound : (m : ℕ) (s : List ℕ) → Escapes k (take m (92 ∷ s)) (escapeOf k (take m (92 ∷ s)))
   unfolding escapeOf
   seen-sound zero s = tt
-  seen-sound (suc m) s = escape-sound (take m s)
+  seen-sound (suc m) s = escape-sound k (take m s)
 
   -- ---- steps
 
@@ -157,17 +39,17 @@ module _ (k : Allowed) where
   abbrev Alternative : List ℕ → ℕ → Unescaped → Type 0
   Alternative s n u =
       ((b : ℕ) × (take n s ≡ b ∷ []) × pieces.Char k b × (u ≡ Byte b))
-      ⊎ (pieces.Esc k (take n s) u ⊎ ((ws : List ℕ) × All blank ws × (take n s ≡ 92 ∷ 10 ∷ ws) × Stops blank (drop n s) × (u ≡ Nothing)))
+      ⊎ (Esc k (take n s) u ⊎ ((ws : List ℕ) × All blank ws × (take n s ≡ 92 ∷ 10 ∷ ws) × Stops blank (drop n s) × (u ≡ Nothing)))
 
   abbrev Stepped : List ℕ → Next → Type 0
   Stepped s (piece n u) = Alternative s n u
   Stepped s (stop close) = getD s 0 0 ≡ 34
   Stepped s (stop (refuse num p)) = Unit {0}
 
-  of-escape : (m : ℕ) (s : List ℕ) (e : Escaped) → EscapeIn (length (take m s)) e → Escapes (take m s) e → Stepped s (ofEscape e)
+  of-escape : (m : ℕ) (s : List ℕ) (e : Escaped) → EscapeIn (length (take m s)) e → Escapes k (take m s) e → Stepped s (ofEscape e)
   of-escape m s (bad num p) i x = tt
   of-escape m s (value u n) i x =
-      inr (inl (subst (λ (t : List ℕ). pieces.Esc k t u) (take-take n m s (omega (arith, i .1, length-take m s))) x))
+      inr (inl (subst (λ (t : List ℕ). Esc k t u) (take-take n m s (omega (arith, i .1, length-take m s))) x))
 
   break-sound : (r : List ℕ) → Stepped (92 ∷ 10 ∷ r) (lineBreakOf r)
   unfolding lineBreakOf

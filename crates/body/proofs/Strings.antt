@@ -1,24 +1,25 @@
 -- The whole quoted string from the measure of its body, and where its parts lie in the text.
 -- Assumes nothing.
 use mathlib.Core.Path.{_≡_, refl, sym, subst}
+use mathlib.Core.Logic.{⊎-elim}
 use mathlib.Core.List.{List}
 use Prim.Native.Nat.{ℕ, _+_, _-_, _≤_, _<_}
 use native.Mathlib.Omega.{arith}
 use borrow.Author.Tests.{eq-eqb, ne-eqb, lt-ltb, le-ltb}
 use lib.ListN.{length, getD, drop, length-drop}
-use Rattle.err.specs.Outcome.{Place, none, between, Rawness, notRaw, raw, Ends, shift}
+use Rattle.err.specs.Outcome.{Place, none, between, Rawness, notRaw, raw, Ends, RefusedIn, shift}
 use Rattle.scan.specs.Run.{run}
 use Rattle.scan.specs.Sets.{only}
 use Rattle.scan.proofs.Cases.{cond-eq, cond-lt, by-lt}
 use Rattle.scan.proofs.Runs.{run-le}
 use Rattle.parse.specs.Suffix.{suffixFault}
-use Rattle.parse.proofs.Suffixes.{fault-none}
+use Rattle.parse.proofs.Suffixes.{fault-none, fault-cases}
 use Rattle.escape.specs.declared.Allowed.{Allowed}
 use Rattle.body.specs.Step.{End, close, refuse, Next, endOf, stepOf, rawStepOf}
-use Rattle.body.specs.Body.{EndFits, Fitting, Body, bodyBy, body, rawBody, Measures}
+use Rattle.body.specs.Body.{Fitting, Body, bodyBy, body, rawBody, Measures}
 use Rattle.body.specs.Quote.{Quote, quoted, refused, closing, suffixed, afterEnd, afterBody, stringOf, rawFrom, rawAt, rawOf}
 use Rattle.body.specs.declared.Measured.{Measured}
-use Rattle.body.proofs.Within.{NextIn, step-in, raw-in}
+use Rattle.body.proofs.Within.{EndIn, end-fits, NextIn, step-in, raw-in}
 use Rattle.body.proofs.Bodies.{ends-in, value-short}
 
 -- ---- a suffix
@@ -37,17 +38,23 @@ pub faulty : (text : List ℕ) (n : ℕ) → (suffixFault (drop n text) ≡ 0 �
 faulty text n h =
     by-lt n (length text) (λ l. l) (λ l. absurd (h (sym (fault-none (drop n text) (omega (arith, length-drop n text))))))
 
+-- and its number is 2 or 39
+fault-small : (s : List ℕ) → suffixFault s ≤ 41
+fault-small s = ⊎-elim (λ e. omega arith) (⊎-elim (λ e. omega arith) (λ e. omega arith)) (fault-cases s)
+
 -- ---- a measure of a body, at an offset of a text
 
 module _ (step : List ℕ → Next) (q : ℕ) (good : (s : List ℕ) → NextIn q (length s) (step s)) (text : List ℕ) (offset : ℕ)
     (in-text : offset ≤ length text) (m : Measured) (is : Measures (bodyBy step (drop offset text)) m) where
   pub fitting : Fitting q offset (length text) m
   fitting =
+      let end : End = bodyBy step (drop offset text) .end in
       let e = ends-in step q good (drop offset text) in
       let l = length-drop offset text in
+      let left : ℕ = length text - (offset + m .at) in
       record {
         place = omega (arith, e .0, is .place);
-        end = rw (is .why) (subst (λ (n : ℕ). EndFits q n (bodyBy step (drop offset text) .end)) (omega (arith, is .place)) (e .1));
+        end = rw (is .why) (end-fits q left end (subst (λ (n : ℕ). EndIn q n end) (omega (arith, is .place)) (e .1)));
       }
 
 pub measured : (text : List ℕ) (r : Rawness) (offset : ℕ) (b : Body) (m : Measured) → Measures b m
@@ -88,10 +95,10 @@ module _ (k : Allowed) (offset : ℕ) (text : List ℕ) where
 -- ---- bounds
 
 -- In a text of n bytes: the value has no more bytes than stand behind the offset and before what closes the string, the suffix starts
--- behind that, and a refusal's span ends in the text.
+-- behind that, and a refusal is in the text.
 abbrev pub QuoteIn : ℕ → ℕ → Quote → Type 0
 QuoteIn n offset (quoted r start len) = (offset + len + closing r ≤ start) × (start ≤ n)
-QuoteIn n offset (refused num p) = Ends n p
+QuoteIn n offset (refused num p) = RefusedIn n num p
 
 shift-in : (at n : ℕ) (p : Place) → at ≤ n → Ends (n - at) p → Ends n (shift at p)
 shift-in at n none h e = tt
@@ -102,12 +109,12 @@ suffixed-in : (text : List ℕ) (r : Rawness) (offset n len : ℕ) → offset + 
 unfolding suffixed
 suffixed-in text r offset n len h l =
     cond-eq (QuoteIn (length text) offset) (suffixFault (drop n text)) 0 (λ e. (h, l))
-    (λ e. (omega arith, omega (arith, faulty text n e)))
+    (λ e. omega (arith, e, faulty text n e, fault-small (drop n text)))
 
 after-in : (text : List ℕ) (r : Rawness) (offset at len : ℕ) (e : End) → offset + len ≤ at → at ≤ length text
-    → EndFits (closing r) (length text - at) e → QuoteIn (length text) offset (afterEnd text r at len e)
+    → EndIn (closing r) (length text - at) e → QuoteIn (length text) offset (afterEnd text r at len e)
 after-in text r offset at len close h l f = suffixed-in text r offset (at + closing r) len (omega arith) (omega arith)
-after-in text r offset at len (refuse num p) h l f = shift-in at (length text) p l f
+after-in text r offset at len (refuse num p) h l f = (f .0, f .1, shift-in at (length text) p l (f .2))
 
 body-in : (step : List ℕ → Next) (text : List ℕ) (r : Rawness) → ((s : List ℕ) → NextIn (closing r) (length s) (step s))
     → (offset : ℕ) → offset ≤ length text → QuoteIn (length text) offset (afterBody text r offset (bodyBy step (drop offset text)))
@@ -118,7 +125,7 @@ body-in step text r good offset l =
     let v = value-short step (closing r) good s in
     let size = length-drop offset text in
     after-in text r offset (offset + b .at) (length (b .value)) (b .end) (omega arith) (omega (arith, e .0))
-    (subst (λ (n : ℕ). EndFits (closing r) n (b .end)) (omega (arith, e .0)) (e .1))
+    (subst (λ (n : ℕ). EndIn (closing r) n (b .end)) (omega (arith, e .0)) (e .1))
 
 pub string-in : (k : Allowed) (offset : ℕ) (text : List ℕ) → offset ≤ length text → QuoteIn (length text) offset (stringOf k offset text)
 unfolding stringOf
@@ -130,13 +137,22 @@ raw-string-in k offset text l =
     let P : Quote → Type 0 = QuoteIn (length text) offset in
     let h : ℕ = run (only 35) (drop offset text) in
     let fits : offset + h ≤ length text = omega (arith, run-le (only 35) (drop offset text), length-drop offset text) in
-    cond-eq P (offset + h) (length text) (λ e. tt) λ e.
-    cond-lt P 255 h (λ g. (omega arith, fits)) λ g.
+    cond-eq P (offset + h) (length text) (λ e. (omega arith, omega arith, tt)) λ e.
+    cond-lt P 255 h (λ g. omega arith) λ g.
     cond-eq P (getD text (offset + h) 0) 34
     (λ q. wider offset (offset + h + 1) (omega arith) (afterBody text (raw h) (offset + h + 1) (rawBody k h (drop (offset + h + 1) text)))
     (body-in (rawStepOf k h) text (raw h) (raw-in k h) (offset + h + 1) (omega arith)))
-    (λ q. tt)
+    (λ q. (omega arith, omega arith, tt))
   where
     wider : (a b : ℕ) → a ≤ b → (x : Quote) → QuoteIn (length text) b x → QuoteIn (length text) a x
     wider a b h (quoted r start len) i = (omega (arith, i .0), i .1)
     wider a b h (refused num p) i = i
+
+-- ---- a refusal is in the text
+
+module _ (k : Allowed) (offset : ℕ) (text : List ℕ) (l : offset ≤ length text) {n : ℕ} {p : Place} where
+  pub string-refused : stringOf k offset text ≡ refused n p → RefusedIn (length text) n p
+  string-refused e = subst (QuoteIn (length text) offset) e (string-in k offset text l)
+
+  pub raw-refused : rawOf k offset text ≡ refused n p → RefusedIn (length text) n p
+  raw-refused e = subst (QuoteIn (length text) offset) e (raw-string-in k offset text l)

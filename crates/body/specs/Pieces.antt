@@ -1,37 +1,18 @@
 -- What stands between the quotes of a string, piece by piece, with the bytes that the pieces stand for.
 -- Assumes nothing.
-use Prim.Native.Nat.{ℕ, suc, _+_, _*_, _≤_, _<_}
+use Prim.Native.Nat.{ℕ, suc, _≤_, _<_}
 use mathlib.Core.Path.{_≡_}
-use mathlib.Core.Bool.{true, false, not, _&&_}
+use mathlib.Core.Bool.{false, not, _&&_}
 use mathlib.Core.List.{List, [], _∷_, _++_}
 use lib.Dec.{eqb, ltb}
 use lib.ListN.{getD, drop}
 use Rattle.scan.specs.Run.{run, All, Stops}
 use Rattle.scan.specs.Sets.{only}
-use Rattle.parse.specs.Class.{classOf}
 use Rattle.parse.specs.Sets.{blank}
-use Rattle.escape.specs.Escape.{bytesOf, letterOf, isScalar}
+use Rattle.escape.specs.Escape.{bytesOf}
+use Rattle.escape.specs.Pieces.{Esc}
 use Rattle.escape.specs.declared.Allowed.{Allowed}
 use Rattle.escape.specs.declared.Unescaped.{Unescaped}
-use Rattle.escape.specs.declared.Unescaped.the-variants.{Byte, Unicode}
-
--- n hex digits, each with any number of `_` behind it, and their number
-pub data Hexes : ℕ → List ℕ → ℕ → Type 0 where
-  one : {d : List ℕ} {v : ℕ} (b : ℕ) (us : List ℕ) → classOf b < 16 → All (only 95) us → d ≡ b ∷ us → v ≡ classOf b → Hexes 1 d v
-  more : {n : ℕ} {d e : List ℕ} {v w : ℕ} (b : ℕ) (us : List ℕ) → Hexes n d v → classOf b < 16 → All (only 95) us
-      → e ≡ d ++ (b ∷ us) → w ≡ 16 * v + classOf b → Hexes (n + 1) e w
-
--- an escape and its value: one letter, `\0`, `\x` with two digits, `\u{}` with one to six digits of a scalar value
-pub data Esc (k : Allowed) : List ℕ → Unescaped → Type 0 where
-  letter : (b : ℕ) → (letterOf b ≡ 0 → ⊥) → Esc k (92 ∷ b ∷ []) (Byte (letterOf b))
-  nul : k .«allow_nul» ≡ true → Esc k (92 ∷ 48 ∷ []) (Byte 0)
-  hex : (a b : ℕ) → classOf a < 16 → classOf b < 16
-      → (not (k .«byte_escapes») && ltb 127 (classOf b + 16 * classOf a)) ≡ false
-      → (not (k .«allow_nul») && eqb (classOf b + 16 * classOf a) 0) ≡ false
-      → Esc k (92 ∷ 120 ∷ a ∷ b ∷ []) (Byte (classOf b + 16 * classOf a))
-  uni : {n : ℕ} {d t : List ℕ} {v : ℕ} → k .unicode ≡ true → Hexes n d v → n ≤ 6
-      → (not (k .«allow_nul») && eqb v 0) ≡ false → isScalar v ≡ true
-      → t ≡ 92 ∷ 117 ∷ 123 ∷ (d ++ (125 ∷ [])) → Esc k t (Unicode v)
 
 -- a byte that stands for itself: no backslash, quote or CR, and no NUL or byte above 127 where the kind has none
 pub record Char (k : Allowed) (b : ℕ) : Type 0 where

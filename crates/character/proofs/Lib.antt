@@ -1,5 +1,5 @@
 pub mod Within
 pub mod Start
-pub mod Tiles
+pub mod Exact
 pub mod Values
 pub mod Examples

@@ -1,1 +1,17 @@
 pub mod Marked
+pub mod ReadCall
+pub mod ValueCall
+pub mod DecodeCall
+pub mod Demand1
+pub mod Demand2
+pub mod Found
+pub mod Classes
+pub mod Suffixes
+pub mod Bools
+pub mod Integers
+pub mod Floats
+pub mod Escapes
+pub mod Characters
+pub mod Contents
+pub mod Strings
+pub mod Reference

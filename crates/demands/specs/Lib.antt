@@ -1,1 +1,3 @@
 pub mod Marked
+pub mod Demand1
+pub mod Demand2

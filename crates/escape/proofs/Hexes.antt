@@ -64,11 +64,11 @@ small n v h e l =
 pub longer : (n v x : ℕ) → x < 16 → v < 16 ^ n → 16 * v + x < 16 ^ (n + 1)
 longer n v x h l = rw (add-one, pow-succ') (omega arith)
 
--- ---- a fault stands inside
+-- ---- a fault stands inside, with a number of litrs's
 
 abbrev pub FaultBelow : ℕ → Hex → Type 0
 FaultBelow m (number v) = Unit {0}
-FaultBelow m (fault num i) = i < m
+FaultBelow m (fault num i) = (1 ≤ num) × (num ≤ 41) × (i < m)
 
 pub fault-below : (s : List ℕ) (i n v m : ℕ) → i + length s ≤ m → FaultBelow m (hexFrom i n v s)
 fault-below [] i n v m h = tt

@@ -5,3 +5,4 @@ pub mod Steps
 pub mod Sound
 pub mod Complete
 pub mod Suffixed
+pub mod Refused

@@ -6,3 +6,4 @@ pub mod Parts
 pub mod Values
 pub mod OtherDigits
 pub mod Examples
+pub mod Refused

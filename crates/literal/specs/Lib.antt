@@ -3,3 +3,4 @@ pub mod Values
 pub mod Suffixes
 pub mod Readings
 pub mod Decodes
+pub mod Inside

@@ -1,4 +1,5 @@
 // The calls that a user makes, of any code and any bytes. A refusal is the first of 42, 43, 44, litrs's own, 45 or 48.
+// The last clause of each contract says that the text at exit is what it was at entry.
 use err::ParseErrorKind;
 use err::Reading;
 use err::Span;
@@ -55,6 +56,7 @@ fn checked_value(text: &[u8], largest: u64) -> IntegerValue
 // The value of an integer literal at a type code.
 pub fn value(code: u64, text: &[u8]) -> IntegerValue
     ensures { λ r. ⌜ valuedOf r ≡ valueAt code (now (text .entry)) ⌝ }
+    ensures { λ r. ⌜ now (text .exit) ≡ now (text .entry) ⌝ }
 {
     let found = IntegerType::from_code(code);
     let IntegerFound::Type(ty) = found else {
@@ -70,6 +72,7 @@ pub fn value(code: u64, text: &[u8]) -> IntegerValue
 // The code of the integer type that a name stands for, or 0.
 pub fn integer_from_suffix(name: &[u8]) -> u8
     ensures { λ r. ⌜ r ≡ integerFromSuffix (now (name .entry)) ⌝ }
+    ensures { λ r. ⌜ now (name .exit) ≡ now (name .entry) ⌝ }
 {
     let found = IntegerType::from_suffix(name);
     let IntegerFound::Type(ty) = found else {
@@ -81,6 +84,7 @@ pub fn integer_from_suffix(name: &[u8]) -> u8
 // The code of the float type that a name stands for, or 0.
 pub fn float_from_suffix(name: &[u8]) -> u8
     ensures { λ r. ⌜ r ≡ floatFromSuffix (now (name .entry)) ⌝ }
+    ensures { λ r. ⌜ now (name .exit) ≡ now (name .entry) ⌝ }
 {
     let found = FloatType::from_suffix(name);
     let FloatFound::Type(ty) = found else {
@@ -164,6 +168,7 @@ fn entry(code: u64, text: &[u8]) -> Reading
 // The reading of a text by entry code.
 pub fn read(code: u64, text: &[u8]) -> Reading
     ensures { λ r. ⌜ outcomeOf r ≡ readAt code (now (text .entry)) ⌝ }
+    ensures { λ r. ⌜ now (text .exit) ≡ now (text .entry) ⌝ }
 {
     if 8 < code {
         return err::perr_nowhere(ParseErrorKind::BadCode);
@@ -207,6 +212,7 @@ fn checked_decode(kind: Kind, text: &[u8], out: &mut [u8]) -> Decoded
 pub fn decode(code: u64, text: &[u8], out: &mut [u8]) -> Decoded
     ensures { λ r. ⌜ decodedOf r ≡ decodeAt code (now (text .entry)) (length (now (out .entry))) ⌝ }
     ensures { λ r. ⌜ now (out .exit) ≡ bufferAt code (now (text .entry)) (now (out .entry)) ⌝ }
+    ensures { λ r. ⌜ now (text .exit) ≡ now (text .entry) ⌝ }
 {
     let found = kind_from_code(code);
     let KindFound::Kind(kind) = found else {

@@ -61,6 +61,11 @@ run-is p [] [] h g = refl
 run-is p [] (x ∷ b) h g = rw g
 run-is p (x ∷ a) b h g = rw (h .0) (ap suc (run-is p a b (h .1) g))
 
+-- two lists whose bytes pass, one behind the other
+pub all-append : (p : ℕ → Bool) (s t : List ℕ) → All p s → All p t → All p (s ++ t)
+all-append p [] t a b = b
+all-append p (x ∷ s) t a b = (a .0, all-append p s t (a .1) b)
+
 -- a list is its run and what stands behind it
 pub run-split : (p : ℕ → Bool) (s : List ℕ) → take (run p s) s ++ drop (run p s) s ≡ s
 run-split p s = take-append-drop (run p s) s

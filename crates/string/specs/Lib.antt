@@ -1,2 +1,3 @@
 pub mod String
 pub mod Decode
+pub mod Parts

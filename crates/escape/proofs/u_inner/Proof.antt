@@ -23,7 +23,7 @@ faulty c = sym (ap hexOf (c .before .digits2 .given .1)) ∙ c .before .before .
 below : (c : tie.After-known-told2) → c .before .digits2 .given .0 .1 .0 < length (c .before .before .before .before .before .before .before .args .d .now)
 below c =
     let d = c .before .before .before .before .before .before .before .args .d .now in
-    subst (λ (h : Hex). hexes.FaultBelow (length d) h) (sym (faulty c)) (hexes.fault-below d 0 0 0 (length d) (omega arith))
+    subst (λ (h : Hex). hexes.FaultBelow (length d) h) (sym (faulty c)) (hexes.fault-below d 0 0 0 (length d) (omega arith)) .2
 
 bad-start-requires : tie.Need-bad-start-requires
 bad-start-requires c κs = search needs

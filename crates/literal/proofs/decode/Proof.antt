@@ -1,6 +1,6 @@
 -- `literal::decode` meets its contract.
 -- Assumes nothing.
-use mathlib.Core.Path.{_≡_}
+use mathlib.Core.Path.{_≡_, refl}
 use Rattle.literal.specs.Decodes.{decodeAt, bufferAt}
 use borrow.Author.Needs.{needs}
 use Rattle.literal.proofs.decode.Statement.{statement}
@@ -19,7 +19,7 @@ returns : tie.Need-returns
 unfolding decodeAt bufferAt
 returns c =
     let z = c .before .before .kind-from-code .ensures in
-    (rw (← z, c .enum-told .given .1), rw (← z, c .enum-told .given .1))
+    (rw (← z, c .enum-told .given .1), (rw (← z, c .enum-told .given .1), refl))
 
 checked-decode-requires : tie.Need-checked-decode-requires
 checked-decode-requires c κs = search needs
@@ -32,7 +32,7 @@ unfolding decodeAt bufferAt
 returns-2 c =
     let f = c .before .before .before .before .before in
     let z = f .before .before .kind-from-code .ensures in
-    (rw (← z, f .found .given .1) (c .before .before .checked-decode .ensures .0), rw (← z, f .found .given .1) (c .before .before .checked-decode .ensures .1))
+    (rw (← z, f .found .given .1) (c .before .before .checked-decode .ensures .0), (rw (← z, f .found .given .1) (c .before .before .checked-decode .ensures .1), refl))
 
 pub decode-spec : {M : Type 1} → statement M
 decode-spec =

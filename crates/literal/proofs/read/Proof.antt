@@ -1,6 +1,6 @@
 -- `literal::read` meets its contract.
 -- Assumes nothing.
-use mathlib.Core.Path.{_≡_, sym, ap, _∙_}
+use mathlib.Core.Path.{_≡_, refl, sym, ap, _∙_}
 use native.Mathlib.Omega.{arith}
 use borrow.Author.Tests.{ne-eqb, le-leb, lt-leb}
 use Rattle.err.specs.Numbers.{numberOf}
@@ -16,7 +16,7 @@ perr-nowhere-requires c κs = search needs
 
 returns : tie.Need-returns
 unfolding readAt
-returns c = rw (lt-leb _ _ (c .before .if1 .taken)) (c .perr-nowhere .ensures)
+returns c = (rw (lt-leb _ _ (c .before .if1 .taken)) (c .perr-nowhere .ensures), refl)
 
 check-text-requires : tie.Need-check-text-requires
 check-text-requires c κs = search needs
@@ -34,7 +34,7 @@ returns-2 : tie.Need-returns-2
 unfolding readAt
 returns-2 c =
     let k = c .before .before .before in
-    rw (le-leb _ _ (k .before .if1 .left), sym (k .check-text .ensures) ∙ ap faultOf (c .before .enum-told .given .1)) (c .entry .ensures)
+    (rw (le-leb _ _ (k .before .if1 .left), sym (k .check-text .ensures) ∙ ap faultOf (c .before .enum-told .given .1)) (c .entry .ensures), refl)
 
 perr-nowhere-requires-2 : tie.Need-perr-nowhere-requires-2
 perr-nowhere-requires-2 c κs = search needs
@@ -45,7 +45,7 @@ returns-3 c =
     let d = c .before .before in
     let k = d .before .before in
     let n = d .checked .given .0 .0 in
-    rw (le-leb _ _ (k .before .if1 .left), sym (k .check-text .ensures) ∙ ap faultOf (d .checked .given .1), ne-eqb (numberOf n) 0 (λ z. omega (arith, number-positive n))) (c .perr-nowhere2 .ensures)
+    (rw (le-leb _ _ (k .before .if1 .left), sym (k .check-text .ensures) ∙ ap faultOf (d .checked .given .1), ne-eqb (numberOf n) 0 (λ z. omega (arith, number-positive n))) (c .perr-nowhere2 .ensures), refl)
 
 pub read-spec : {M : Type 1} → statement M
 read-spec =

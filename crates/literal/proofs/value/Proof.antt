@@ -1,6 +1,6 @@
 -- `literal::value` meets its contract.
 -- Assumes nothing.
-use mathlib.Core.Path.{_≡_, sym, ap, _∙_}
+use mathlib.Core.Path.{_≡_, refl, sym, ap, _∙_}
 use Rattle.literal.specs.Values.{valueAt}
 use borrow.Author.Needs.{needs}
 use Rattle.literal.proofs.value.Statement.{statement}
@@ -17,7 +17,7 @@ enum-told c = search needs
 
 returns : tie.Need-returns
 unfolding valueAt
-returns c = rw (← c .before .before .from-code .ensures, c .enum-told .given .1)
+returns c = (rw (← c .before .before .from-code .ensures, c .enum-told .given .1), refl)
 
 largest-requires : tie.Need-largest-requires
 largest-requires c κs = search needs
@@ -32,7 +32,7 @@ returns-2 : tie.Need-returns-2
 unfolding valueAt
 returns-2 c =
     let a = c .before .before .before .before in
-    rw (← a .before .before .from-code .ensures, a .found .given .1, ← c .before .before .largest .ensures, c .enum-told2 .given .1)
+    (rw (← a .before .before .from-code .ensures, a .found .given .1, ← c .before .before .largest .ensures, c .enum-told2 .given .1), refl)
 
 checked-value-requires : tie.Need-checked-value-requires
 checked-value-requires c κs = search needs
@@ -42,7 +42,7 @@ unfolding valueAt
 returns-3 c =
     let b = c .before .before in
     let a = b .before .before .before .before in
-    rw (← a .before .before .from-code .ensures, a .found .given .1, ← b .before .before .largest .ensures, b .most .given .1) (c .checked-value .ensures)
+    (rw (← a .before .before .from-code .ensures, a .found .given .1, ← b .before .before .largest .ensures, b .most .given .1) (c .checked-value .ensures), refl)
 
 pub value-spec : {M : Type 1} → statement M
 value-spec =

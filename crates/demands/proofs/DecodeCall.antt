@@ -1,0 +1,160 @@
+-- Decoding answers every code, every text and every buffer, and touches no buffer that it refuses.
+-- Assumes nothing.
+use mathlib.Core.Path.{_≡_, refl, subst}
+use mathlib.Core.Bool.{Bool, true, false, cond}
+use mathlib.Core.List.{List}
+use Prim.Native.Nat.{ℕ, _≤_, _<_}
+use native.Mathlib.Omega.{arith}
+use borrow.Author.Tests.{leb-true, le-leb, lt-leb}
+use lib.Dec.{eqb, leb}
+use lib.ListN.{length}
+use Rattle.err.specs.Outcome.{Place, none, Values, Outcome, refused, accepted}
+use Rattle.buffer.specs.Buffer.{over}
+use Rattle.scan.proofs.Cases.{cond-in, cond-eq}
+use Rattle.utf8.specs.Utf8.{Utf8}
+use Rattle.string.specs.String.{kindOf, stringRead, stringValue}
+use Rattle.string.specs.Decode.{Decode, written, withheld, ofReading, stringDecoded, bufferOf, bufferAfter}
+use Rattle.string.specs.declared.Kind.{Kind}
+use Rattle.string.specs.declared.Kind.the-variants.{Text, Bytes, C}
+use Rattle.string.proofs.Refused.{refused-in}
+use Rattle.literal.specs.Checks.{textFault}
+use Rattle.literal.specs.Decodes.{checkedDecode, checkedBuffer, kindCoded, decodeBy, bufferBy, decodeAt, bufferAt}
+use Rattle.literal.specs.declared.KindFound.{KindFound}
+use Rattle.literal.specs.declared.KindFound.the-variants as found
+use Rattle.literal.proofs.Checks.{long-fault, utf8-fault, no-fault, fault-most}
+use Rattle.demands.specs.Demand1.{Fine, Decodes, DecodeAnswered, DecodeAnswers}
+
+-- ---- codes
+
+coded : (k : Kind) → kindCoded (kindOf k) ≡ found.Kind k
+unfolding kindCoded
+coded Text = refl
+coded Bytes = refl
+coded C = refl
+
+uncoded : (code : ℕ) → (Decodes code → ⊥) → kindCoded code ≡ found.Nothing
+unfolding kindCoded
+uncoded code n =
+    cond-eq P code 5 (λ e. absurd (n (Text, e))) λ _.
+    cond-eq P code 7 (λ e. absurd (n (Bytes, e))) λ _.
+    cond-eq P code 8 (λ e. absurd (n (C, e))) λ _. refl
+  where
+    P : KindFound → Type 0
+    P f = f ≡ found.Nothing
+
+-- ---- every call is answered
+
+decode-answered : (k : Kind) (have : ℕ) (s : List ℕ) → DecodeAnswered (length s) have (stringDecoded k s have)
+unfolding stringDecoded
+decode-answered k have s = go (stringRead k s) refl
+  where
+    v : List ℕ
+    v = stringValue k s
+
+    go : (o : Outcome) → stringRead k s ≡ o → DecodeAnswered (length s) have (ofReading o v have)
+    go (refused n p) h = let r = refused-in k s h in (r .0, omega arith, r .2)
+    go (accepted kind e vs) h = cond-in (DecodeAnswered (length s) have) (leb (length v) have) (λ t. leb-true (length v) have t) (λ t. omega arith)
+
+checked-answered : (k : Kind) (have : ℕ) (s : List ℕ) → DecodeAnswered (length s) have (checkedDecode k s have)
+unfolding checkedDecode
+checked-answered k have s =
+    cond-eq (DecodeAnswered (length s) have) (textFault s) 0 (λ z. decode-answered k have s) (λ z. let m = fault-most s in omega arith)
+
+answered : (code have : ℕ) (s : List ℕ) → DecodeAnswered (length s) have (decodeAt code s have)
+unfolding decodeAt
+answered code have s = go (kindCoded code)
+  where
+    go : (f : KindFound) → DecodeAnswered (length s) have (decodeBy f s have)
+    go (found.Kind k) = checked-answered k have s
+    go found.Nothing = omega arith
+
+-- ---- how
+
+bad-code : (code have : ℕ) (s : List ℕ) → (Decodes code → ⊥) → decodeAt code s have ≡ withheld 42 none
+unfolding decodeAt
+bad-code code have s n = rw (uncoded code n)
+
+module _ (k : Kind) (have : ℕ) (s : List ℕ) where
+  too-long : 65536 < length s → decodeAt (kindOf k) s have ≡ withheld 43 none
+  unfolding decodeAt checkedDecode
+  too-long h = rw (coded k, long-fault s h)
+
+  not-utf8 : length s ≤ 65536 → (Utf8 s → ⊥) → decodeAt (kindOf k) s have ≡ withheld 44 none
+  unfolding decodeAt checkedDecode
+  not-utf8 h n = rw (coded k, utf8-fault s h n)
+
+  pub fine-decode : Fine s → decodeAt (kindOf k) s have ≡ stringDecoded k s have
+  unfolding decodeAt checkedDecode
+  fine-decode f = rw (coded k, no-fault s (f .short) (f .utf8))
+
+  own : {n : ℕ} {p : Place} → Fine s → stringRead k s ≡ refused n p → decodeAt (kindOf k) s have ≡ withheld n p
+  unfolding stringDecoded
+  own f h = rw (fine-decode f, h)
+
+  module _ {kind e : ℕ} {vs : Values} (f : Fine s) (h : stringRead k s ≡ accepted kind e vs) where
+    too-small : have < length (stringValue k s) → decodeAt (kindOf k) s have ≡ withheld 48 none
+    unfolding stringDecoded
+    too-small l = rw (fine-decode f, h, lt-leb (length (stringValue k s)) have l)
+
+    decoded : length (stringValue k s) ≤ have → decodeAt (kindOf k) s have ≡ written (length (stringValue k s))
+    unfolding stringDecoded
+    decoded l = rw (fine-decode f, h, le-leb (length (stringValue k s)) have l)
+
+pub fine-buffer : (k : Kind) (s buf : List ℕ) → Fine s → bufferAt (kindOf k) s buf ≡ bufferAfter k s buf
+unfolding bufferAt checkedBuffer
+fine-buffer k s buf f = rw (coded k, no-fault s (f .short) (f .utf8))
+
+-- ---- the buffer: as it came where the answer is a refusal, else the value over its front
+
+abbrev Held : List ℕ → List ℕ → Decode → List ℕ → Type 0
+Held v buf (written n) after = after ≡ over v buf
+Held v buf (withheld n p) after = after ≡ buf
+
+held-reading : (o : Outcome) (v buf : List ℕ) → Held v buf (ofReading o v (length buf)) (bufferOf o v buf)
+held-reading (refused n p) v buf = refl
+held-reading (accepted kind e vs) v buf = by-test (leb (length v) (length buf))
+  where
+    by-test : (t : Bool) → Held v buf (cond t (written (length v)) (withheld 48 none)) (cond t (over v buf) buf)
+    by-test true = refl
+    by-test false = refl
+
+held-checked : (k : Kind) (s buf : List ℕ) → Held (stringValue k s) buf (checkedDecode k s (length buf)) (checkedBuffer k s buf)
+unfolding checkedDecode checkedBuffer stringDecoded bufferAfter
+held-checked k s buf = by-test (eqb (textFault s) 0)
+  where
+    v : List ℕ
+    v = stringValue k s
+
+    o : Outcome
+    o = stringRead k s
+
+    by-test : (t : Bool) → Held v buf (cond t (ofReading o v (length buf)) (withheld (textFault s) none)) (cond t (bufferOf o v buf) buf)
+    by-test true = held-reading o v buf
+    by-test false = refl
+
+untouched : (code : ℕ) (s buf : List ℕ) {n : ℕ} {p : Place} → decodeAt code s (length buf) ≡ withheld n p → bufferAt code s buf ≡ buf
+unfolding decodeAt bufferAt
+untouched code s buf {n} {p} = go (kindCoded code)
+  where
+    go : (f : KindFound) → decodeBy f s (length buf) ≡ withheld n p → bufferBy f s buf ≡ buf
+    go (found.Kind k) h = subst (λ (d : Decode). Held (stringValue k s) buf d (checkedBuffer k s buf)) h (held-checked k s buf)
+    go found.Nothing h = refl
+
+filled : (k : Kind) (s buf : List ℕ) {n : ℕ} → decodeAt (kindOf k) s (length buf) ≡ written n → bufferAt (kindOf k) s buf ≡ over (stringValue k s) buf
+unfolding decodeAt bufferAt
+filled k s buf h =
+    rw (coded k) (subst (λ (d : Decode). Held (stringValue k s) buf d (checkedBuffer k s buf)) (rw (coded k) at h) (held-checked k s buf))
+
+pub decode-answers : DecodeAnswers
+decode-answers =
+    record {
+      answered = answered;
+      bad-code = bad-code;
+      too-long = too-long;
+      not-utf8 = not-utf8;
+      own = own;
+      too-small = too-small;
+      decoded = decoded;
+      untouched = untouched;
+      filled = filled;
+    }

@@ -1,0 +1,110 @@
+-- The value call answers every code and every text.
+-- Assumes nothing.
+use mathlib.Core.Path.{_≡_, refl}
+use mathlib.Core.List.{List}
+use Prim.Native.Nat.{ℕ, _^_, _≤_, _<_}
+use native.Mathlib.Omega.{arith}
+use borrow.Author.Tests.{leb-true, le-leb, lt-leb}
+use lib.Dec.{leb}
+use lib.ListN.{length}
+use Rattle.err.specs.Outcome.{Place, none, Values, Outcome, refused, accepted}
+use Rattle.scan.proofs.Cases.{cond-in, cond-eq}
+use Rattle.utf8.specs.Utf8.{Utf8}
+use Rattle.types.specs.Types.{integerCoded, largestOf}
+use Rattle.types.specs.declared.IntegerType.{IntegerType}
+use Rattle.types.specs.declared.IntegerType.the-variants.{U8, U16, U32, U64, U128, Usize, I8, I16, I32, I64, I128, Isize}
+use Rattle.types.specs.declared.IntegerFound.{IntegerFound}
+use Rattle.types.specs.declared.IntegerFound.the-variants as found
+use Rattle.types.specs.declared.Largest.{Largest}
+use Rattle.types.specs.declared.Largest.the-variants.{Value, NoValues}
+use Rattle.integer.specs.Integer.{baseAt, mainPart, integerRead}
+use Rattle.integer.specs.Value.{given, withheld, number, ofReading, bounded, integerValue}
+use Rattle.integer.proofs.Refused.{refused-in}
+use Rattle.literal.specs.Checks.{textFault}
+use Rattle.literal.specs.Values.{checkedValue, largestIn, valueWithin, valueAt}
+use Rattle.literal.proofs.Checks.{long-fault, utf8-fault, no-fault, fault-most}
+use Rattle.demands.specs.Demand1.{Fine, ValueAnswered, ValueAnswers}
+
+-- no largest value is above 64 bits
+abbrev Small : Largest → Type 0
+Small (Value most) = most < 2 ^ 64
+Small NoValues = Unit {0}
+
+small : (t : IntegerType) → Small (largestOf t)
+small U8 = omega arith
+small U16 = omega arith
+small U32 = omega arith
+small U64 = omega arith
+small U128 = tt
+small Usize = tt
+small I8 = omega arith
+small I16 = omega arith
+small I32 = omega arith
+small I64 = omega arith
+small I128 = tt
+small Isize = tt
+
+small-in : (f : IntegerFound) → Small (largestIn f)
+small-in (found.Type t) = small t
+small-in found.Nothing = tt
+
+value-answered : (most : ℕ) (s : List ℕ) → most < 2 ^ 64 → ValueAnswered (length s) (integerValue most s)
+unfolding integerValue
+value-answered most s l = go (integerRead s) refl
+  where
+    n : ℕ
+    n = number (baseAt s) (mainPart s)
+
+    go : (o : Outcome) → integerRead s ≡ o → ValueAnswered (length s) (ofReading o (bounded most n))
+    go (refused m p) h = let r = refused-in s h in (r .0, omega arith, r .2)
+    go (accepted k e vs) h =
+        cond-in (ValueAnswered (length s)) (leb n most) (λ t. let b = leb-true n most t in omega arith) (λ t. omega arith)
+
+checked-answered : (most : ℕ) (s : List ℕ) → most < 2 ^ 64 → ValueAnswered (length s) (checkedValue most s)
+unfolding checkedValue
+checked-answered most s l =
+    cond-eq (ValueAnswered (length s)) (textFault s) 0 (λ z. value-answered most s l) (λ z. let m = fault-most s in omega arith)
+
+answered : (code : ℕ) (s : List ℕ) → ValueAnswered (length s) (valueAt code s)
+unfolding valueAt
+answered code s = go (largestIn (integerCoded code)) (small-in (integerCoded code))
+  where
+    go : (l : Largest) → Small l → ValueAnswered (length s) (valueWithin l s)
+    go (Value most) h = checked-answered most s h
+    go NoValues h = omega arith
+
+bad-code : (code : ℕ) (s : List ℕ) → largestIn (integerCoded code) ≡ NoValues → valueAt code s ≡ withheld 42 none
+unfolding valueAt
+bad-code code s h = rw h
+
+module _ (code most : ℕ) (s : List ℕ) (l : largestIn (integerCoded code) ≡ Value most) where
+  too-long : 65536 < length s → valueAt code s ≡ withheld 43 none
+  unfolding valueAt checkedValue
+  too-long h = rw (l, long-fault s h)
+
+  not-utf8 : length s ≤ 65536 → (Utf8 s → ⊥) → valueAt code s ≡ withheld 44 none
+  unfolding valueAt checkedValue
+  not-utf8 h n = rw (l, utf8-fault s h n)
+
+  pub fine-value : Fine s → valueAt code s ≡ integerValue most s
+  unfolding valueAt checkedValue
+  fine-value f = rw (l, no-fault s (f .short) (f .utf8))
+
+own : (code most : ℕ) (s : List ℕ) {n : ℕ} {p : Place} → largestIn (integerCoded code) ≡ Value most → Fine s
+    → integerRead s ≡ refused n p → valueAt code s ≡ withheld n p
+unfolding integerValue
+own code most s l f h = rw (fine-value code most s l f, h)
+
+no-value : (code most : ℕ) (s : List ℕ) {k e : ℕ} {vs : Values} → largestIn (integerCoded code) ≡ Value most → Fine s
+    → integerRead s ≡ accepted k e vs → most < number (baseAt s) (mainPart s) → valueAt code s ≡ withheld 45 none
+unfolding integerValue
+no-value code most s l f h g = rw (fine-value code most s l f, h, lt-leb (number (baseAt s) (mainPart s)) most g)
+
+fits : (code most : ℕ) (s : List ℕ) {k e : ℕ} {vs : Values} → largestIn (integerCoded code) ≡ Value most → Fine s
+    → integerRead s ≡ accepted k e vs → number (baseAt s) (mainPart s) ≤ most → valueAt code s ≡ given (number (baseAt s) (mainPart s))
+unfolding integerValue
+fits code most s l f h g = rw (fine-value code most s l f, h, le-leb (number (baseAt s) (mainPart s)) most g)
+
+pub value-answers : ValueAnswers
+value-answers =
+    record { answered = answered; bad-code = bad-code; too-long = too-long; not-utf8 = not-utf8; own = own; no-value = no-value; fits = fits }

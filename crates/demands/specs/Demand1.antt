@@ -1,0 +1,111 @@
+-- Demand 1: "Every call comes to an end for all bytes a club can type or send: with an answer, or with a refusal number and its span as
+-- document 01 gives them; with the text it was handed untouched; and, if refused, with the output buffer exactly as it came."
+--
+-- The calls, with the contracts that are proved of their code. None has a `requires`: any code and any bytes may be handed in.
+--   literal::read                 outcomeOf r ≡ readAt code text
+--   literal::value                valuedOf r ≡ valueAt code text
+--   literal::decode               decodedOf r ≡ decodeAt code text (length of out at entry), and out at exit ≡ bufferAt code text (out at entry)
+--   literal::integer_from_suffix  r ≡ integerFromSuffix name
+--   literal::float_from_suffix    r ≡ floatFromSuffix name
+-- "comes to an end": a contract is proved only of code that ends. "with the text untouched": the text is a shared slice, and the last clause of
+-- each contract says that at exit it is what it was at entry. The rest is said below, of the definitions that the contracts cite.
+-- Assumes nothing.
+use Prim.Native.Nat.{ℕ, _^_, _≤_, _<_}
+use mathlib.Core.Path.{_≡_}
+use mathlib.Core.Logic.{_⊎_}
+use mathlib.Core.List.{List}
+use lib.ListN.{length}
+use Rattle.err.specs.Outcome.{Place, Ends, none, Values, Outcome, refused, accepted}
+use Rattle.buffer.specs.Buffer.{over}
+use Rattle.utf8.specs.Utf8.{Utf8}
+use Rattle.types.specs.declared.Largest.the-variants.{Value, NoValues}
+use Rattle.types.specs.Types.{integerCoded}
+use Rattle.integer.specs.Integer.{baseAt, mainPart, integerRead}
+use Rattle.integer.specs.Value.{Valued, given, number}
+use Rattle.integer.specs.Value as valued
+use Rattle.string.specs.String.{kindOf, stringRead, stringValue}
+use Rattle.string.specs.Decode.{Decode, written, withheld}
+use Rattle.string.specs.declared.Kind.{Kind}
+use Rattle.literal.specs.Readings.{entryRead, readAt}
+use Rattle.literal.specs.Values.{largestIn, valueAt}
+use Rattle.literal.specs.Decodes.{decodeAt, bufferAt}
+use Rattle.literal.specs.Suffixes.{integerFromSuffix, floatFromSuffix}
+
+-- a text that may be read: at most 65,536 bytes, and UTF-8
+pub record Fine (s : List ℕ) : Type 0 where
+  pub short : length s ≤ 65536
+  pub utf8 : Utf8 s
+
+-- a refusal of a text of m bytes: one of 01's numbers, up to the largest that the call has, and no span or one inside the text
+abbrev pub Numbered : ℕ → ℕ → ℕ → Place → Type 0
+Numbered m most n p = (1 ≤ n) × (n ≤ most) × Ends m p
+
+-- the answers of reading: a reading of one of the eight kinds, with its suffix inside the text, or a refusal
+abbrev pub Answered : ℕ → Outcome → Type 0
+Answered m (accepted k e vs) = (1 ≤ k) × (k ≤ 8) × (e ≤ m)
+Answered m (refused n p) = Numbered m 44 n p
+
+-- reading answers every code and every text, and refuses it exactly so, in this order
+pub record ReadAnswers : Type 0 where
+  pub answered : (code : ℕ) (s : List ℕ) → Answered (length s) (readAt code s)
+  pub bad-code : (code : ℕ) (s : List ℕ) → 8 < code → readAt code s ≡ refused 42 none
+  pub too-long : (code : ℕ) (s : List ℕ) → code ≤ 8 → 65536 < length s → readAt code s ≡ refused 43 none
+  pub not-utf8 : (code : ℕ) (s : List ℕ) → code ≤ 8 → length s ≤ 65536 → (Utf8 s → ⊥) → readAt code s ≡ refused 44 none
+  pub own : (code : ℕ) (s : List ℕ) → code ≤ 8 → Fine s → readAt code s ≡ entryRead code s
+
+-- the answers of the value call: a number, or a refusal
+abbrev pub ValueAnswered : ℕ → Valued → Type 0
+ValueAnswered m (given v) = v < 2 ^ 64
+ValueAnswered m (valued.withheld n p) = Numbered m 45 n p
+
+-- the value call likewise: a code with no values is 42, and 45 exactly where the number is above the type's largest value
+pub record ValueAnswers : Type 0 where
+  pub answered : (code : ℕ) (s : List ℕ) → ValueAnswered (length s) (valueAt code s)
+  pub bad-code : (code : ℕ) (s : List ℕ) → largestIn (integerCoded code) ≡ NoValues → valueAt code s ≡ valued.withheld 42 none
+  pub too-long : (code most : ℕ) (s : List ℕ) → largestIn (integerCoded code) ≡ Value most → 65536 < length s
+      → valueAt code s ≡ valued.withheld 43 none
+  pub not-utf8 : (code most : ℕ) (s : List ℕ) → largestIn (integerCoded code) ≡ Value most → length s ≤ 65536 → (Utf8 s → ⊥)
+      → valueAt code s ≡ valued.withheld 44 none
+  pub own : (code most : ℕ) (s : List ℕ) {n : ℕ} {p : Place} → largestIn (integerCoded code) ≡ Value most → Fine s
+      → integerRead s ≡ refused n p → valueAt code s ≡ valued.withheld n p
+  pub no-value : (code most : ℕ) (s : List ℕ) {k e : ℕ} {vs : Values} → largestIn (integerCoded code) ≡ Value most → Fine s
+      → integerRead s ≡ accepted k e vs → most < number (baseAt s) (mainPart s) → valueAt code s ≡ valued.withheld 45 none
+  pub fits : (code most : ℕ) (s : List ℕ) {k e : ℕ} {vs : Values} → largestIn (integerCoded code) ≡ Value most → Fine s
+      → integerRead s ≡ accepted k e vs → number (baseAt s) (mainPart s) ≤ most → valueAt code s ≡ given (number (baseAt s) (mainPart s))
+
+-- a code with decoded bytes: 5, 7 or 8
+abbrev pub Decodes : ℕ → Type 0
+Decodes code = (k : Kind) × (code ≡ kindOf k)
+
+-- the answers of decoding into a buffer of `have` bytes: a count that fits, or a refusal
+abbrev pub DecodeAnswered : ℕ → ℕ → Decode → Type 0
+DecodeAnswered m have (written n) = n ≤ have
+DecodeAnswered m have (withheld n p) = Numbered m 48 n p
+
+-- decoding likewise: 48 exactly where the buffer is shorter than the value, after everything that a reading can refuse
+pub record DecodeAnswers : Type 0 where
+  pub answered : (code have : ℕ) (s : List ℕ) → DecodeAnswered (length s) have (decodeAt code s have)
+  pub bad-code : (code have : ℕ) (s : List ℕ) → (Decodes code → ⊥) → decodeAt code s have ≡ withheld 42 none
+  pub too-long : (k : Kind) (have : ℕ) (s : List ℕ) → 65536 < length s → decodeAt (kindOf k) s have ≡ withheld 43 none
+  pub not-utf8 : (k : Kind) (have : ℕ) (s : List ℕ) → length s ≤ 65536 → (Utf8 s → ⊥) → decodeAt (kindOf k) s have ≡ withheld 44 none
+  pub own : (k : Kind) (have : ℕ) (s : List ℕ) {n : ℕ} {p : Place} → Fine s → stringRead k s ≡ refused n p
+      → decodeAt (kindOf k) s have ≡ withheld n p
+  pub too-small : (k : Kind) (have : ℕ) (s : List ℕ) {kind e : ℕ} {vs : Values} → Fine s → stringRead k s ≡ accepted kind e vs
+      → have < length (stringValue k s) → decodeAt (kindOf k) s have ≡ withheld 48 none
+  pub decoded : (k : Kind) (have : ℕ) (s : List ℕ) {kind e : ℕ} {vs : Values} → Fine s → stringRead k s ≡ accepted kind e vs
+      → length (stringValue k s) ≤ have → decodeAt (kindOf k) s have ≡ written (length (stringValue k s))
+  -- "if refused, with the output buffer exactly as it came"
+  pub untouched : (code : ℕ) (s buf : List ℕ) {n : ℕ} {p : Place} → decodeAt code s (length buf) ≡ withheld n p → bufferAt code s buf ≡ buf
+  -- else it holds the value, and behind it what it held there
+  pub filled : (k : Kind) (s buf : List ℕ) {n : ℕ} → decodeAt (kindOf k) s (length buf) ≡ written n → bufferAt (kindOf k) s buf ≡ over (stringValue k s) buf
+
+-- both from_suffix answer every name: a type's code, or 0
+pub record SuffixAnswers : Type 0 where
+  pub integer : (name : List ℕ) → integerFromSuffix name ≤ 12
+  pub float : (name : List ℕ) → (floatFromSuffix name ≡ 0) ⊎ ((floatFromSuffix name ≡ 13) ⊎ (floatFromSuffix name ≡ 14))
+
+pub record Demand1 : Type 0 where
+  pub read : ReadAnswers
+  pub value : ValueAnswers
+  pub decode : DecodeAnswers
+  pub suffixes : SuffixAnswers

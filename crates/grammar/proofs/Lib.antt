@@ -1,0 +1,10 @@
+pub mod Scan
+pub mod Runs
+pub mod Integers
+pub mod FloatValues
+pub mod Floats
+pub mod Splits
+pub mod Fronts
+pub mod NumberSplits
+pub mod Unambiguous
+pub mod Examples

@@ -1,0 +1,89 @@
+-- A refusal of an integer has one of litrs's numbers and a span inside the text.
+-- Assumes nothing.
+use mathlib.Core.Path.{_≡_, refl, sym, _∙_, subst}
+use mathlib.Core.Bool.{true}
+use mathlib.Core.Logic.{⊎-elim}
+use mathlib.Core.List.{List, [], _∷_}
+use Prim.Native.Nat.{ℕ, _+_, _≤_, _<_}
+use native.Mathlib.Omega.{arith}
+use borrow.Author.Tests.{eqb-true}
+use lib.Dec.{eqb}
+use lib.ListN.{length, getD, take, drop, length-drop, List·getD-eq-default}
+use Rattle.err.specs.Outcome.{Place, Outcome, refused, accepted, RefusedIn}
+use Rattle.scan.specs.Run.{run}
+use Rattle.scan.specs.Sets.{only}
+use Rattle.scan.proofs.Cases.{by-lt, cond-in, cond-eq}
+use Rattle.scan.proofs.Runs.{run-le}
+use Rattle.parse.specs.Sets.{digit, decDigit, startsE}
+use Rattle.parse.specs.Suffix.{suffixFault}
+use Rattle.parse.proofs.Classes.{either, dec-digit-ends}
+use Rattle.parse.proofs.Suffixes.{fault-cases}
+use Rattle.integer.specs.Integer.{baseAt, prefixLen, mainLen, afterSuffix, afterDigits, integerOf, integerAt, integerRead}
+use Rattle.integer.proofs.Bases.{base-short}
+
+-- what a refusal of a text of m bytes says
+abbrev Told : ℕ → Outcome → Type 0
+Told m (refused n p) = RefusedIn m n p
+Told m (accepted k e vs) = Unit {0}
+
+-- ---- what stands inside the text
+
+byte-inside : (s : List ℕ) (at b : ℕ) → getD s at 0 ≡ b → 0 < b → at < length s
+byte-inside s at b e h = by-lt at (length s) (λ l. l) (λ l. absurd (omega (arith, sym (List·getD-eq-default s 0 l) ∙ e)))
+
+digit-inside : (s : List ℕ) (at : ℕ) → decDigit (getD s at 0) ≡ true → at < length s
+digit-inside s at t = let h = dec-digit-ends (getD s at 0) t in byte-inside s at (getD s at 0) refl (omega arith)
+
+e-inside : (s : List ℕ) (at : ℕ) → startsE s at ≡ true → at < length s
+unfolding startsE
+e-inside s at t =
+    ⊎-elim (λ e. byte-inside s at 101 (eqb-true _ _ e) (omega arith)) (λ e. byte-inside s at 69 (eqb-true _ _ e) (omega arith))
+    (either (eqb (getD s at 0) 101) (eqb (getD s at 0) 69) t)
+
+prefix-inside : (s : List ℕ) → prefixLen (baseAt s) ≤ length s
+unfolding prefixLen
+prefix-inside s =
+    by-lt (length s) 2 (λ l. rw (← base-short s l) (omega arith))
+    (λ l. cond-in (λ (n : ℕ). n ≤ length s) (eqb (baseAt s) 10) (λ e. omega arith) (λ e. omega arith))
+
+main-inside : (s : List ℕ) → prefixLen (baseAt s) + mainLen s ≤ length s
+unfolding mainLen
+main-inside s =
+    let n = prefixLen (baseAt s) in
+    omega (arith, prefix-inside s, run-le (digit (baseAt s)) (drop n s), length-drop n s)
+
+-- ---- the tests in their order
+
+fault-small : (s : List ℕ) → suffixFault s ≤ 41
+fault-small s = ⊎-elim (λ e. omega arith) (⊎-elim (λ e. omega arith) (λ e. omega arith)) (fault-cases s)
+
+module _ (s : List ℕ) where
+  after-suffix : (e : ℕ) (next : Outcome) → e ≤ length s → Told (length s) next → Told (length s) (afterSuffix s e next)
+  unfolding afterSuffix
+  after-suffix e next h t =
+      cond-eq (Told (length s)) (suffixFault (drop e s)) 0 (λ z. t)
+      (λ z. cond-in (Told (length s)) (decDigit (getD s e 0))
+      (λ d. let l = digit-inside s e d in omega arith)
+      (λ d. let l = fault-small (drop e s) in omega arith))
+
+  after-digits : (start n : ℕ) (next : Outcome) → start + n ≤ length s → Told (length s) next
+      → Told (length s) (afterDigits s start (start + n) n next)
+  unfolding afterDigits
+  after-digits start n next h t =
+      cond-in (Told (length s)) (startsE s (start + n))
+      (λ d. let l = e-inside s (start + n) d in omega arith)
+      (λ d. cond-eq (Told (length s)) (run (only 95) (take n (drop start s))) n (λ z. omega arith) (λ z. t))
+
+told : (s : List ℕ) → Told (length s) (integerRead s)
+unfolding integerRead integerAt integerOf
+told [] = omega arith
+told (b ∷ t) =
+    let s = b ∷ t in
+    let n = prefixLen (baseAt s) in
+    let h = main-inside s in
+    cond-in (Told (length s)) (decDigit b)
+    (λ d. after-suffix s (n + mainLen s) _ h (after-digits s n (mainLen s) _ h tt))
+    (λ d. omega arith)
+
+pub refused-in : (s : List ℕ) {n : ℕ} {p : Place} → integerRead s ≡ refused n p → RefusedIn (length s) n p
+refused-in s h = subst (Told (length s)) h (told s)

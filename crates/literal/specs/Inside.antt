@@ -1,0 +1,25 @@
+-- Where the parts of an accepted reading stand in its text.
+-- Assumes nothing.
+use Prim.Native.Nat.{ℕ, _≤_}
+use mathlib.Core.List.{List, [], _∷_}
+use Rattle.err.specs.Outcome.{Values, truth, digits, ends, value, decoded}
+use Rattle.utf8.specs.Utf8.{Boundary}
+
+-- the offsets that a reading names, in their order: the ends of its parts, and the start of its suffix, e
+abbrev pub offsets : ℕ → Values → List ℕ
+offsets e (truth t) = e ∷ []
+offsets e (digits base a z) = a ∷ z ∷ e ∷ []
+offsets e (ends i f z) = i ∷ f ∷ z ∷ e ∷ []
+offsets e (value v) = e ∷ []
+offsets e (decoded r n) = e ∷ []
+
+-- each offset is inside the text and on a character boundary
+abbrev pub OnBoundaries : List ℕ → List ℕ → Type 0
+OnBoundaries s [] = Unit {0}
+OnBoundaries s (at ∷ offs) = Boundary s at × OnBoundaries s offs
+
+-- none stands before the one in front of it
+abbrev pub Rising : List ℕ → Type 0
+Rising [] = Unit {0}
+Rising (a ∷ []) = Unit {0}
+Rising (a ∷ b ∷ offs) = (a ≤ b) × Rising (b ∷ offs)
