@@ -164,7 +164,7 @@ fn few(s: &[u8], from: usize, k: Allowed) -> usize
 }
 
 // Where the run ends. A short run pays for no block.
-fn plain_end(s: &[u8], from: usize, k: Allowed) -> usize
+pub fn plain_end(s: &[u8], from: usize, k: Allowed) -> usize
     requires { ⌜ from ≤ length (now s) ⌝ }
     ensures { λ r. ⌜ r ≡ from + run (plainByte k) (drop from (now (s .entry))) ⌝ }
 {
@@ -205,7 +205,7 @@ fn backslash(s: &[u8], last: usize, k: Allowed) -> Step
 }
 
 // What stands at i of a quoted body.
-fn step_at(s: &[u8], i: usize, last: usize, k: Allowed) -> Step
+pub fn step_at(s: &[u8], i: usize, last: usize, k: Allowed) -> Step
     requires { ⌜ last ≡ lastLen (now s) ⌝ }
     ensures { λ r. ⌜ nextOf r ≡ stepOf k (drop i (now (s .entry))) ⌝ }
 {

@@ -14,7 +14,7 @@ use Rattle.scan.proofs.Sames.{same-eq}
 use Rattle.boolean.specs.Bool.{boolRead}
 use Rattle.integer.proofs.Suffixed.{never}
 use Rattle.grammar.specs.Meaning.{Means, is-true, is-false, bool, trueText, falseText}
-use Rattle.demands.specs.Demand1.{Fine}
+use Rattle.demands.specs.Demand1.{Readable}
 use Rattle.demands.proofs.Found.{Found}
 
 found : (s : List ℕ) (b : Bool) {k e : ℕ} {vs : Values} → Means s (bool b) [] → accepted 1 (length s) (truth b) ≡ accepted k e vs → Found s k e vs
@@ -23,7 +23,7 @@ found s b {k} {e} {vs} m h =
     record { worth = bool b; suffix = []; means = m; kind = cc; rest = rw (← q) (drop-length s); gives = cc }
 
 -- what litrs reads as a bool is one
-pub bool-found : (s : List ℕ) {k e : ℕ} {vs : Values} → Fine s → boolRead s ≡ accepted k e vs → Found s k e vs
+pub bool-found : (s : List ℕ) {k e : ℕ} {vs : Values} → Readable s → boolRead s ≡ accepted k e vs → Found s k e vs
 unfolding boolRead
 bool-found s {k} {e} {vs} f =
     cond-in P (same s falseText) (λ t. found s false (is-false (same-eq s falseText t) refl refl))

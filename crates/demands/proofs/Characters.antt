@@ -26,7 +26,7 @@ use Rattle.grammar.specs.Quoted as quoted
 use Rattle.grammar.specs.Meaning.{is-char, is-byte}
 use Rattle.grammar.specs.Meaning as worth
 use Rattle.grammar.proofs.Runs.{T-true, true-T, and-l, and-r, and-i}
-use Rattle.demands.specs.Demand1.{Fine}
+use Rattle.demands.specs.Demand1.{Readable}
 use Rattle.demands.proofs.Found.{Found}
 use Rattle.demands.proofs.Suffixes.{suffix-is}
 use Rattle.demands.proofs.Escapes.{Seven, Eight, esc-seven, seven-esc, esc-eight, eight-esc}
@@ -113,7 +113,7 @@ tiled : (q : Quote) {s x : List ℕ} (c : List ℕ) {v : ℕ} → s ≡ openingO
 tiled q {s} {x} c is inner ending =
     record { content = c; suf = x; text = is; is = inner; suffix = suffix-is x .1 ending; end = start-is (tiled-ends q c x is) }
 
-pub char-found : (s : List ℕ) {k e : ℕ} {vs : Values} → Fine s → charRead s ≡ accepted k e vs → Found s k e vs
+pub char-found : (s : List ℕ) {k e : ℕ} {vs : Values} → Readable s → charRead s ≡ accepted k e vs → Found s k e vs
 char-found s {e = e} f h =
     let (v, kind, values, t) = char-sound s h in
     record {
@@ -125,7 +125,7 @@ char-found s {e = e} f h =
       gives = values;
     }
 
-pub byte-found : (s : List ℕ) {k e : ℕ} {vs : Values} → Fine s → byteRead s ≡ accepted k e vs → Found s k e vs
+pub byte-found : (s : List ℕ) {k e : ℕ} {vs : Values} → Readable s → byteRead s ≡ accepted k e vs → Found s k e vs
 byte-found s {e = e} f h =
     let (v, kind, values, t) = byte-sound s h in
     record {

@@ -22,7 +22,7 @@ use Rattle.literal.specs.Decodes.{checkedDecode, checkedBuffer, kindCoded, deco
 use Rattle.literal.specs.declared.KindFound.{KindFound}
 use Rattle.literal.specs.declared.KindFound.the-variants as found
 use Rattle.literal.proofs.Checks.{long-fault, utf8-fault, no-fault, fault-most}
-use Rattle.demands.specs.Demand1.{Fine, Decodes, DecodeAnswered, DecodeAnswers}
+use Rattle.demands.specs.Demand1.{Readable, Decodes, DecodeAnswered, DecodeAnswers}
 
 -- ---- codes
 
@@ -83,15 +83,15 @@ module _ (k : Kind) (have : ℕ) (s : List ℕ) where
   unfolding decodeAt checkedDecode
   not-utf8 h n = rw (coded k, utf8-fault s h n)
 
-  pub fine-decode : Fine s → decodeAt (kindOf k) s have ≡ stringDecoded k s have
+  pub fine-decode : Readable s → decodeAt (kindOf k) s have ≡ stringDecoded k s have
   unfolding decodeAt checkedDecode
   fine-decode f = rw (coded k, no-fault s (f .short) (f .utf8))
 
-  own : {n : ℕ} {p : Place} → Fine s → stringRead k s ≡ refused n p → decodeAt (kindOf k) s have ≡ withheld n p
+  own : {n : ℕ} {p : Place} → Readable s → stringRead k s ≡ refused n p → decodeAt (kindOf k) s have ≡ withheld n p
   unfolding stringDecoded
   own f h = rw (fine-decode f, h)
 
-  module _ {kind e : ℕ} {vs : Values} (f : Fine s) (h : stringRead k s ≡ accepted kind e vs) where
+  module _ {kind e : ℕ} {vs : Values} (f : Readable s) (h : stringRead k s ≡ accepted kind e vs) where
     too-small : have < length (stringValue k s) → decodeAt (kindOf k) s have ≡ withheld 48 none
     unfolding stringDecoded
     too-small l = rw (fine-decode f, h, lt-leb (length (stringValue k s)) have l)
@@ -100,7 +100,7 @@ module _ (k : Kind) (have : ℕ) (s : List ℕ) where
     unfolding stringDecoded
     decoded l = rw (fine-decode f, h, le-leb (length (stringValue k s)) have l)
 
-pub fine-buffer : (k : Kind) (s buf : List ℕ) → Fine s → bufferAt (kindOf k) s buf ≡ bufferAfter k s buf
+pub fine-buffer : (k : Kind) (s buf : List ℕ) → Readable s → bufferAt (kindOf k) s buf ≡ bufferAfter k s buf
 unfolding bufferAt checkedBuffer
 fine-buffer k s buf f = rw (coded k, no-fault s (f .short) (f .utf8))
 

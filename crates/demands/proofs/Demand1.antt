@@ -1,49 +1,82 @@
 -- Demand 1 holds.
 -- Assumes nothing.
-use mathlib.Core.Path.{_≡_, refl}
-use mathlib.Core.Logic.{_⊎_, inl, inr}
-use Prim.Native.Nat.{_≤_}
-use native.Mathlib.Omega.{arith}
-use Rattle.types.specs.Types.{integerNamed, integerCode, floatNamed}
+use mathlib.Core.Path.{_≡_, refl, ap, _∙_}
+use mathlib.Core.Bool.{true}
+use mathlib.Core.List.{List}
+use Prim.Native.Nat.{ℕ}
+use Rattle.scan.specs.Same.{same}
+use Rattle.scan.proofs.Cases.{cond-in}
+use Rattle.scan.proofs.Sames.{same-eq}
+use Rattle.utf8.specs.Utf8.{encode}
+use Rattle.types.specs.Types.{unsignedNamed, signedNamed, orElse, integerNamed, integerCode, floatNamed, floatCode}
 use Rattle.types.specs.declared.IntegerType.{IntegerType}
 use Rattle.types.specs.declared.IntegerType.the-variants.{U8, U16, U32, U64, U128, Usize, I8, I16, I32, I64, I128, Isize}
 use Rattle.types.specs.declared.IntegerFound.{IntegerFound}
 use Rattle.types.specs.declared.IntegerFound.the-variants as integer
+use Rattle.types.specs.declared.FloatType.{FloatType}
 use Rattle.types.specs.declared.FloatType.the-variants.{F32, F64}
 use Rattle.types.specs.declared.FloatFound.{FloatFound}
 use Rattle.types.specs.declared.FloatFound.the-variants as float
 use Rattle.literal.specs.Suffixes.{codeOfInteger, integerFromSuffix, codeOfFloat, floatFromSuffix}
-use Rattle.demands.specs.Demand1.{SuffixAnswers, Demand1}
+use Rattle.demands.specs.Demand1.{integerName, floatName, SuffixAnswers, Demand1}
 use Rattle.demands.proofs.ReadCall.{read-answers}
 use Rattle.demands.proofs.ValueCall.{value-answers}
 use Rattle.demands.proofs.DecodeCall.{decode-answers}
+use Rattle.demands.proofs.SettleCall.{settle-answers}
 
-code-most : (t : IntegerType) → integerCode t ≤ 12
-code-most U8 = omega arith
-code-most U16 = omega arith
-code-most U32 = omega arith
-code-most U64 = omega arith
-code-most U128 = omega arith
-code-most Usize = omega arith
-code-most I8 = omega arith
-code-most I16 = omega arith
-code-most I32 = omega arith
-code-most I64 = omega arith
-code-most I128 = omega arith
-code-most Isize = omega arith
+-- ---- a name that has a code
 
-integer-code : (f : IntegerFound) → codeOfInteger f ≤ 12
-integer-code (integer.Type t) = code-most t
-integer-code integer.Nothing = omega arith
+integer-named : (t : IntegerType) → integerFromSuffix (integerName t) ≡ integerCode t
+unfolding encode unsignedNamed signedNamed integerNamed integerFromSuffix
+integer-named U8 = refl
+integer-named U16 = refl
+integer-named U32 = refl
+integer-named U64 = refl
+integer-named U128 = refl
+integer-named Usize = refl
+integer-named I8 = refl
+integer-named I16 = refl
+integer-named I32 = refl
+integer-named I64 = refl
+integer-named I128 = refl
+integer-named Isize = refl
 
-float-code : (f : FloatFound) → (codeOfFloat f ≡ 0) ⊎ ((codeOfFloat f ≡ 13) ⊎ (codeOfFloat f ≡ 14))
-float-code (float.Type F32) = inr (inl refl)
-float-code (float.Type F64) = inr (inr refl)
-float-code float.Nothing = inl refl
+float-named : (t : FloatType) → floatFromSuffix (floatName t) ≡ floatCode t
+unfolding encode floatNamed floatFromSuffix
+float-named F32 = refl
+float-named F64 = refl
+
+-- ---- any other name
+
+module _ (name : List ℕ) where
+  unnamed : ((t : IntegerType) → name ≡ integerName t → ⊥) → integerFromSuffix name ≡ 0
+  unfolding encode unsignedNamed signedNamed integerNamed integerFromSuffix
+  unnamed never = ap codeOfInteger (ap (λ (f : IntegerFound). orElse f (signedNamed name)) unsigned ∙ signed)
+    where
+      is : {x : List ℕ} {f : IntegerFound} (t : IntegerType) → x ≡ integerName t → same name x ≡ true → f ≡ integer.Nothing
+      is t e h = absurd (never t (same-eq name _ h ∙ e))
+
+      P : IntegerFound → Type 0
+      P f = f ≡ integer.Nothing
+
+      unsigned : unsignedNamed name ≡ integer.Nothing
+      unsigned =
+          cond-in P _ (is U8 refl) λ a. cond-in P _ (is U16 refl) λ a. cond-in P _ (is U32 refl) λ a. cond-in P _ (is U64 refl) λ a.
+          cond-in P _ (is U128 refl) λ a. cond-in P _ (is Usize refl) λ a. refl
+
+      signed : signedNamed name ≡ integer.Nothing
+      signed =
+          cond-in P _ (is I8 refl) λ a. cond-in P _ (is I16 refl) λ a. cond-in P _ (is I32 refl) λ a. cond-in P _ (is I64 refl) λ a.
+          cond-in P _ (is I128 refl) λ a. cond-in P _ (is Isize refl) λ a. refl
+
+  no-float-named : ((t : FloatType) → name ≡ floatName t → ⊥) → floatFromSuffix name ≡ 0
+  unfolding encode floatNamed floatFromSuffix
+  no-float-named never =
+      let P : FloatFound → Type 0 = λ f. codeOfFloat f ≡ 0 in
+      cond-in P _ (λ h. absurd (never F32 (same-eq name _ h))) λ a. cond-in P _ (λ h. absurd (never F64 (same-eq name _ h))) λ a. refl
 
 suffix-answers : SuffixAnswers
-unfolding integerFromSuffix floatFromSuffix
-suffix-answers = record { integer = λ name. integer-code (integerNamed name); float = λ name. float-code (floatNamed name) }
+suffix-answers = record { integer = integer-named; no-integer = unnamed; float = float-named; no-float = no-float-named }
 
 pub demand-1 : Demand1
-demand-1 = record { read = read-answers; value = value-answers; decode = decode-answers; suffixes = suffix-answers }
+demand-1 = record { read = read-answers; value = value-answers; decode = decode-answers; suffixes = suffix-answers; settle = settle-answers }

@@ -1,22 +1,19 @@
 -- Demand 2, part one, holds: the calls answer as the definitions transcribed from the Rust.
 -- Assumes nothing.
-use mathlib.Core.Path.{_≡_, ap, _∙_}
+use mathlib.Core.Path.{_≡_, _∙_}
 use mathlib.Core.List.{List}
 use Prim.Native.Nat.{ℕ, _≤_}
 use native.Mathlib.Omega.{arith}
 use Rattle.err.specs.Outcome.{Values, accepted}
-use Rattle.types.specs.Types.{integerCode}
-use Rattle.types.proofs.Codes.{coded}
 use Rattle.literal.specs.Readings.{entryRead, readAt}
-use Rattle.literal.specs.Values.{largestIn}
 use Rattle.literal.proofs.Inside.{entry-inside}
 use Rattle.literal.proofs.Answers.{read-own, read-passed, entry-accepted}
-use Rattle.demands.specs.Demand1.{Fine}
+use Rattle.demands.specs.Demand1.{Readable}
 use Rattle.demands.specs.Demand2.{AsTheRust, Accepted, Demand2Rust}
 use Rattle.demands.proofs.ValueCall.{fine-value}
 use Rattle.demands.proofs.DecodeCall.{fine-decode, fine-buffer}
 
-answers : (s : List ℕ) → Fine s → AsTheRust s
+answers : (s : List ℕ) → Readable s → AsTheRust s
 unfolding entryRead
 answers s f =
     record {
@@ -29,7 +26,7 @@ answers s f =
       byte = entry 6 (omega arith);
       byte-string = entry 7 (omega arith);
       c-string = entry 8 (omega arith);
-      value = λ t most l. fine-value (integerCode t) most s (ap largestIn (coded t) ∙ l) f;
+      value = λ code most v. fine-value code most s v f;
       decoded = λ k have. fine-decode k have s f;
       buffer = λ k buf. fine-buffer k s buf f;
     }

@@ -23,7 +23,7 @@ use Rattle.grammar.specs.Notation.{all}
 use Rattle.grammar.specs.Suffixes.{LOW}
 use Rattle.grammar.specs.Numbers.{OCT-DIGIT, HEX-DIGIT}
 use Rattle.grammar.specs.Values.{digitValue, plain, numberFrom, numberIn}
-use Rattle.grammar.specs.Escapes.{QUOTE-ESCAPE, apostrophe, quotation-mark, SIMPLE-ESCAPE, lf, cr, ht, reverse-solidus, ASCII-ESCAPE, BYTE-ESCAPE, HEX-GROUPS, UNICODE-ESCAPE}
+use Rattle.grammar.specs.Escapes.{QUOTE-ESCAPE, apostrophe, quotation-mark, COMMON-ESCAPE, lf, cr, ht, reverse-solidus, ASCII-ESCAPE, BYTE-ESCAPE, HEX-GROUPS, UNICODE-ESCAPE}
 use Rattle.grammar.specs.Escapes as escapes
 use Rattle.grammar.proofs.Runs.{T-true, true-T, and-l, and-r}
 use Rattle.demands.proofs.Classes.{oct-is, hex-digit-is, value-is, not-low, all-to, all-from}
@@ -128,7 +128,7 @@ Fits k v = (not (k .«byte_escapes») && ltb 127 v) ≡ false
 -- an escape by the productions, where the kind allows it
 data Meant (k : Allowed) (t : List ℕ) : Unescaped → Type 0 where
   quote : (v : ℕ) → QUOTE-ESCAPE t v → Meant k t (Byte v)
-  simple : (v : ℕ) → SIMPLE-ESCAPE t v → NoNul k v → Meant k t (Byte v)
+  simple : (v : ℕ) → COMMON-ESCAPE t v → NoNul k v → Meant k t (Byte v)
   code : (a b v : ℕ) → T (HEX-DIGIT a) → T (HEX-DIGIT b) → t ≡ 92 ∷ 120 ∷ a ∷ b ∷ [] → v ≡ digitValue a * 16 + digitValue b
       → Fits k v → NoNul k v → Meant k t (Byte v)
   unicode : (v : ℕ) → k .unicode ≡ true → UNICODE-ESCAPE t v → NoNul k v → Meant k t (Unicode v)
@@ -179,7 +179,7 @@ has-nul : (a : Bool) → (not a && true) ≡ false → a ≡ true
 has-nul true e = refl
 has-nul false e = clash refl e
 
-simple-stands : {k : Allowed} {t : List ℕ} {v : ℕ} → SIMPLE-ESCAPE t v → NoNul k v → Esc k t (Byte v)
+simple-stands : {k : Allowed} {t : List ℕ} {v : ℕ} → COMMON-ESCAPE t v → NoNul k v → Esc k t (Byte v)
 unfolding letterOf
 simple-stands lf z = letter 110 (λ e. omega arith)
 simple-stands cr z = letter 114 (λ e. omega arith)
@@ -219,7 +219,7 @@ oct-from a b h g =
     (hex-from a (omega arith), omega (arith, value-is a (omega arith), value-is b d))
 
 -- a 7-bit escape's value is one byte of UTF-8
-simple-small : {t : List ℕ} {v : ℕ} → SIMPLE-ESCAPE t v → v < 128
+simple-small : {t : List ℕ} {v : ℕ} → COMMON-ESCAPE t v → v < 128
 simple-small lf = omega arith
 simple-small cr = omega arith
 simple-small ht = omega arith

@@ -33,7 +33,7 @@ use Rattle.grammar.proofs.Scan.{takeWhile, dropWhile, any, suffixOk, Run, behin
 use Rattle.grammar.proofs.Runs.{T-true, true-T, T-not, and-i, or-l, or-r, or-e, span-only, all-append, mixed-all}
 use Rattle.grammar.proofs.Integers.{Dec, dec-open, dec-all, dec-apart}
 use Rattle.grammar.proofs.Floats.{float-iff}
-use Rattle.demands.specs.Demand1.{Fine}
+use Rattle.demands.specs.Demand1.{Readable}
 use Rattle.demands.specs.Demand2.{part}
 use Rattle.demands.proofs.Found.{Found}
 use Rattle.demands.proofs.Classes.{T-false, dec-is, decimal-is, digit-is, all-to, all-from, stops-to, stops-from, some-to, some-from}
@@ -382,7 +382,7 @@ found s {k} {e} {vs} l h =
         (drop-at (a ++ (b ++ c)) x (length a + length b + length c) (simp length-append (omega arith)))
 
 -- what litrs reads as a float is one
-pub float-found : (s : List ℕ) {k e : ℕ} {vs : Values} → Fine s → floatRead s ≡ accepted k e vs → Found s k e vs
+pub float-found : (s : List ℕ) {k e : ℕ} {vs : Values} → Readable s → floatRead s ≡ accepted k e vs → Found s k e vs
 float-found s {k} {e} {vs} fine h =
     let t = sound s k e vs h in
     found s (float-iff s .0 (subst⁻¹ (λ (u : List ℕ). T (floatOk u)) (t .text) (parts-scan (t .parts)))) h

@@ -16,11 +16,6 @@ use Rattle.scan.specs.Run.{run, All}
 use Rattle.scan.specs.Sets.{only}
 use Rattle.scan.proofs.Cases.{cond-in, clash}
 use Rattle.scan.proofs.Runs.{run-is}
-use Rattle.utf8.proofs.Valid.{isUtf8-right}
-use Rattle.types.specs.Types.{integerCode, largestOf}
-use Rattle.types.specs.declared.IntegerType.{IntegerType}
-use Rattle.types.specs.declared.Largest.the-variants.{Value}
-use Rattle.types.proofs.Codes.{coded}
 use Rattle.parse.specs.Class.{classOf}
 use Rattle.parse.specs.Sets.{digit, decDigit}
 use Rattle.parse.proofs.Classes.{digit-cases, digit-ten-cases, dec-digit-ends}
@@ -31,8 +26,6 @@ use Rattle.integer.specs.Value as litrs
 use Rattle.integer.proofs.Bases.{base-short}
 use Rattle.integer.proofs.Parts.{sound, complete}
 use Rattle.integer.proofs.Values.{value-of-parts}
-use Rattle.literal.specs.Checks.{textFault}
-use Rattle.literal.specs.Values.{checkedValue, valueAt}
 use Rattle.grammar.specs.Notation.{Class, begins, _∪_}
 use Rattle.grammar.specs.Suffixes.{DEC-DIGIT, LOW}
 use Rattle.grammar.specs.Numbers.{BIN-DIGIT, OCT-DIGIT, HEX-DIGIT, DEC-LITERAL, RADIX-LITERAL, INTEGER-PART, INTEGER-LITERAL}
@@ -41,8 +34,9 @@ use Rattle.grammar.specs.Meaning.{integer, is-integer}
 use Rattle.grammar.proofs.Scan.{takeWhile, dropWhile, any, suffixOk, digitsOk, prefixed, integerOk}
 use Rattle.grammar.proofs.Runs.{T-true, true-T, and-l, and-r, and-i, or-l, span-eq, span-all, span-stop, mixed, mixed-all}
 use Rattle.grammar.proofs.Integers.{dec-open, dec-make, dec-all, digits-ok, prefix-is, integer-iff}
-use Rattle.demands.specs.Demand1.{Fine}
+use Rattle.demands.specs.Demand1.{Readable}
 use Rattle.demands.specs.Demand2.{part, GivesInteger}
+use Rattle.demands.proofs.ValueCall.{fine-value}
 use Rattle.demands.proofs.Found.{Found}
 use Rattle.demands.proofs.Classes.{T-false, DigitsOf, bin-is, oct-is, dec-is, hex-digit-is, decimal-is, digit-is, value-is, all-to, all-from, stops-to, stops-from, some-to, some-from}
 use Rattle.demands.proofs.Suffixes.{scan-fault, fault-scan, no-e-is, ending-is}
@@ -80,7 +74,7 @@ base-at bin main y a = inl (base-bin (main ++ y))
 base-at oct main y a = inl (base-oct (main ++ y))
 base-at hex main y a = inl (base-hex (main ++ y))
 
-base-most : {base : ℕ} {pre : List ℕ} → Prefixed base pre → base ≤ 16
+pub base-most : {base : ℕ} {pre : List ℕ} → Prefixed base pre → base ≤ 16
 base-most dec = omega arith
 base-most bin = omega arith
 base-most oct = omega arith
@@ -264,16 +258,7 @@ part-value {base} {pre} p main a = rw (radix-is (pre ++ main), part-base p main 
 
 -- ---- what litrs reads
 
-fine-text : (s : List ℕ) → Fine s → textFault s ≡ 0
-unfolding textFault
-fine-text s f = rw (le-leb (length s) 65536 (f .short), isUtf8-right s .1 (f .utf8))
-
-value-call : (s : List ℕ) → Fine s → (t : IntegerType) (largest : ℕ) → largestOf t ≡ Value largest
-    → valueAt (integerCode t) s ≡ litrs.integerValue largest s
-unfolding valueAt checkedValue
-value-call s f t largest e = rw (coded t, e, fine-text s f)
-
-gives : {base : ℕ} {pre main suf : List ℕ} → IntegerParts base pre main suf → Fine (pre ++ (main ++ suf))
+gives : {base : ℕ} {pre main suf : List ℕ} → IntegerParts base pre main suf → Readable (pre ++ (main ++ suf))
     → GivesInteger (pre ++ (main ++ suf)) (digits base (length pre) (length pre + length main)) (integerValue (pre ++ main))
 gives {base} {pre} {main} {suf} h f =
     let v = part-value (h .prefix) main (h .digits) in
@@ -283,12 +268,13 @@ gives {base} {pre} {main} {suf} h f =
       end = length pre + length main;
       values = refl;
       number = rw (add-sub-cancel-left, drop-append-seam, take-append-seam) (sym v);
-      given = λ t largest e.
-          value-call (pre ++ (main ++ suf)) f t largest e ∙ value-of-parts largest h
+      radix = sym (radix-is (pre ++ (main ++ suf)) ∙ h .plain);
+      given = λ code largest e.
+          fine-value code largest (pre ++ (main ++ suf)) e f ∙ value-of-parts largest h
           ∙ ap (bounded largest) (number-is base main (base-most (h .prefix)) (h .digits) ∙ sym v);
     }
 
-found : {s : List ℕ} {k e : ℕ} {vs : Values} → Tiled s k e vs → Fine s → Found s k e vs
+found : {s : List ℕ} {k e : ℕ} {vs : Values} → Tiled s k e vs → Readable s → Found s k e vs
 unfolding literal
 found {s} {k} {e} {vs} t f = go (t .parts) (t .text) (t .kind) (t .end) (t .values)
   where
@@ -306,7 +292,7 @@ found {s} {k} {e} {vs} t f = go (t .parts) (t .text) (t .kind) (t .end) (t .valu
         })
 
 -- what litrs reads as an integer is one
-pub integer-found : (s : List ℕ) {k e : ℕ} {vs : Values} → Fine s → integerRead s ≡ accepted k e vs → Found s k e vs
+pub integer-found : (s : List ℕ) {k e : ℕ} {vs : Values} → Readable s → integerRead s ≡ accepted k e vs → Found s k e vs
 integer-found s {k} {e} {vs} f h = found (sound s k e vs h) f
 
 -- ---- what the Reference has

@@ -2,6 +2,7 @@ pub mod Marked
 pub mod ReadCall
 pub mod ValueCall
 pub mod DecodeCall
+pub mod SettleCall
 pub mod Demand1
 pub mod Demand2
 pub mod Found
@@ -15,3 +16,7 @@ pub mod Characters
 pub mod Contents
 pub mod Strings
 pub mod Reference
+pub mod Worths
+pub mod Settling
+pub mod FormText
+pub mod Demand3

@@ -15,8 +15,9 @@ use Rattle.literal.proofs.Answers.{read-own, read-passed, entry-accepted}
 use Rattle.grammar.specs.Meaning.{Worth, kindOf, Means, is-true, is-false, is-integer, is-float, is-char, is-string, is-raw-string, is-byte, is-byte-string, is-raw-byte-string, is-c-string, is-raw-c-string}
 use Rattle.grammar.specs.Meaning as worth
 use Rattle.grammar.proofs.Unambiguous.{unambiguous}
-use Rattle.demands.specs.Demand1.{Fine}
-use Rattle.demands.specs.Demand2.{Takes, Gives, Demand2Reference}
+use Rattle.demands.specs.Demand1.{Readable}
+use Rattle.demands.specs.Demand2.{Takes, Gives, Demand2Reference, Demand2}
+use Rattle.demands.proofs.Demand2.{demand-2-rust}
 use Rattle.demands.proofs.Found.{Found}
 use Rattle.demands.proofs.Bools.{bool-found, bool-read}
 use Rattle.demands.proofs.Integers.{integer-found, integer-read}
@@ -26,7 +27,7 @@ use Rattle.demands.proofs.Strings.{string-found, string-read}
 
 -- ---- what an entry accepts has a meaning
 
-entry-found : (code : ℕ) (s : List ℕ) {k e : ℕ} {vs : Values} → code ≤ 8 → Fine s → entryRead code s ≡ accepted k e vs → Found s k e vs
+entry-found : (code : ℕ) (s : List ℕ) {k e : ℕ} {vs : Values} → code ≤ 8 → Readable s → entryRead code s ≡ accepted k e vs → Found s k e vs
 unfolding entryRead
 entry-found code s {k} {e} {vs} c f h =
     let a = entry-accepted code s c h in
@@ -72,7 +73,7 @@ takes : (code k : ℕ) → (1 ≤ code → k ≡ code) → Takes code k
 takes zero k h = inl refl
 takes (suc n) k h = inr (sym (h (omega arith)))
 
-accepted-means : (code : ℕ) (s : List ℕ) {k e : ℕ} {vs : Values} → Fine s → readAt code s ≡ accepted k e vs
+accepted-means : (code : ℕ) (s : List ℕ) {k e : ℕ} {vs : Values} → Readable s → readAt code s ≡ accepted k e vs
     → (w : Worth) × (x : List ℕ) × Means s w x × Takes code (kindOf w)
 accepted-means code s {k} f h =
     let p = read-passed code s h in
@@ -80,7 +81,7 @@ accepted-means code s {k} f h =
     let a = entry-accepted code s (p .0) (p .3) in
     (r .worth, r .suffix, r .means, takes code (kindOf (r .worth)) (λ l. sym (r .kind) ∙ a .2 l))
 
-means-accepted : (code : ℕ) (s : List ℕ) → Fine s → {w : Worth} {x : List ℕ} → Means s w x → Takes code (kindOf w)
+means-accepted : (code : ℕ) (s : List ℕ) → Readable s → {w : Worth} {x : List ℕ} → Means s w x → Takes code (kindOf w)
     → (k e : ℕ) × (vs : Values) × (readAt code s ≡ accepted k e vs)
 unfolding entryRead
 means-accepted code s f {w} m t = go t (meaning-read s (f .utf8) m)
@@ -107,3 +108,7 @@ demand-2-reference =
       worth = same-worth;
       unambiguous = unambiguous;
     }
+
+-- the whole of demand 2
+pub demand-2 : Demand2
+demand-2 = record { rust = demand-2-rust; reference = demand-2-reference }

@@ -28,7 +28,7 @@ use Rattle.grammar.specs.Notation.{times}
 use Rattle.grammar.specs.Quoted.{Quoted, Raw, closing, STRING-LITERAL, RAW-STRING-LITERAL, BYTE-STRING-LITERAL, RAW-BYTE-STRING-LITERAL, C-STRING-LITERAL, RAW-C-STRING-LITERAL}
 use Rattle.grammar.specs.Meaning.{Worth, Means, is-string, is-raw-string, is-byte-string, is-raw-byte-string, is-c-string, is-raw-c-string}
 use Rattle.grammar.specs.Meaning as worth
-use Rattle.demands.specs.Demand1.{Fine}
+use Rattle.demands.specs.Demand1.{Readable}
 use Rattle.demands.specs.Demand2.{Gives, GivesBytes}
 use Rattle.demands.proofs.Found.{Found}
 use Rattle.demands.proofs.Suffixes.{suffix-is}
@@ -100,7 +100,7 @@ module _ (k : Kind) {s v x : List ℕ} where
 
 -- ---- what decoding gives
 
-fine-fault : (s : List ℕ) → Fine s → textFault s ≡ 0
+fine-fault : (s : List ℕ) → Readable s → textFault s ≡ 0
 unfolding textFault
 fine-fault s f = rw (le-leb (length s) 65536 (f .short), isUtf8-right s .1 (f .utf8))
 
@@ -110,7 +110,7 @@ coded Text = refl
 coded Bytes = refl
 coded C = refl
 
-module _ (k : Kind) (s : List ℕ) {kind e : ℕ} {vs : Values} (f : Fine s) (g : stringRead k s ≡ accepted kind e vs) where
+module _ (k : Kind) (s : List ℕ) {kind e : ℕ} {vs : Values} (f : Readable s) (g : stringRead k s ≡ accepted kind e vs) where
   counted : (buf : List ℕ) → length (stringValue k s) ≤ length buf → decodeAt (kindOf k) s (length buf) ≡ written (length (stringValue k s))
   unfolding decodeAt checkedDecode
   counted buf room = rw (coded k, fine-fault s f) (sym (decode-written k s buf (sym g) room .0))
@@ -146,7 +146,7 @@ raw-means Text s v x l = is-raw-string v l refl
 raw-means Bytes s v x l = is-raw-byte-string v l refl
 raw-means C s v x l = is-raw-c-string v l refl
 
-pub string-found : (k : Kind) (s : List ℕ) {kind e : ℕ} {vs : Values} → Fine s → stringRead k s ≡ accepted kind e vs → Found s kind e vs
+pub string-found : (k : Kind) (s : List ℕ) {kind e : ℕ} {vs : Values} → Readable s → stringRead k s ≡ accepted kind e vs → Found s kind e vs
 string-found k s {kind} {e} {vs} f g =
     let r = sound k s g in
     go (stringValue k s) (r .0) (λ h is. record { hashes = h; values = is; count = counted k s f g; bytes = left k s f g }) (r .1)

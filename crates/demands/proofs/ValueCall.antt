@@ -1,6 +1,6 @@
 -- The value call answers every code and every text.
 -- Assumes nothing.
-use mathlib.Core.Path.{_≡_, refl}
+use mathlib.Core.Path.{_≡_, refl, sym, subst}
 use mathlib.Core.List.{List}
 use Prim.Native.Nat.{ℕ, _^_, _≤_, _<_}
 use native.Mathlib.Omega.{arith}
@@ -23,7 +23,7 @@ use Rattle.integer.proofs.Refused.{refused-in}
 use Rattle.literal.specs.Checks.{textFault}
 use Rattle.literal.specs.Values.{checkedValue, largestIn, valueWithin, valueAt}
 use Rattle.literal.proofs.Checks.{long-fault, utf8-fault, no-fault, fault-most}
-use Rattle.demands.specs.Demand1.{Fine, ValueAnswered, ValueAnswers}
+use Rattle.demands.specs.Demand1.{Readable, ValueAnswered, ValueType, u8, u16, u32, u64, i8, i16, i32, i64, ValueAnswers}
 
 -- no largest value is above 64 bits
 abbrev Small : Largest → Type 0
@@ -73,11 +73,50 @@ answered code s = go (largestIn (integerCoded code)) (small-in (integerCoded cod
     go (Value most) h = checked-answered most s h
     go NoValues h = omega arith
 
-bad-code : (code : ℕ) (s : List ℕ) → largestIn (integerCoded code) ≡ NoValues → valueAt code s ≡ withheld 42 none
-unfolding valueAt
-bad-code code s h = rw h
+-- ---- the types that have values
 
-module _ (code most : ℕ) (s : List ℕ) (l : largestIn (integerCoded code) ≡ Value most) where
+typed : {code most : ℕ} → ValueType code most → largestIn (integerCoded code) ≡ Value most
+unfolding integerCoded
+typed u8 = refl
+typed u16 = refl
+typed u32 = refl
+typed u64 = refl
+typed i8 = refl
+typed i16 = refl
+typed i32 = refl
+typed i64 = refl
+
+-- no other code has
+untyped : (code : ℕ) → ((most : ℕ) → ValueType code most → ⊥) → largestIn (integerCoded code) ≡ NoValues
+unfolding integerCoded
+untyped code never =
+    cond-eq P code 1 (λ e. is u8 e) λ a.
+    cond-eq P code 2 (λ e. is u16 e) λ a.
+    cond-eq P code 3 (λ e. is u32 e) λ a.
+    cond-eq P code 4 (λ e. is u64 e) λ a.
+    cond-eq P code 5 (λ e. refl) λ a.
+    cond-eq P code 6 (λ e. refl) λ a.
+    cond-eq P code 7 (λ e. is i8 e) λ a.
+    cond-eq P code 8 (λ e. is i16 e) λ a.
+    cond-eq P code 9 (λ e. is i32 e) λ a.
+    cond-eq P code 10 (λ e. is i64 e) λ a.
+    cond-eq P code 11 (λ e. refl) λ a.
+    cond-eq P code 12 (λ e. refl) λ a. refl
+  where
+    P : IntegerFound → Type 0
+    P f = largestIn f ≡ NoValues
+
+    is : {A : Type 0} {c most : ℕ} → ValueType c most → code ≡ c → A
+    is {most = most} v e = absurd (never most (subst (λ (n : ℕ). ValueType n most) (sym e) v))
+
+bad-code : (code : ℕ) (s : List ℕ) → ((most : ℕ) → ValueType code most → ⊥) → valueAt code s ≡ withheld 42 none
+unfolding valueAt
+bad-code code s h = rw (untyped code h)
+
+module _ (code most : ℕ) (s : List ℕ) (v : ValueType code most) where
+  l : largestIn (integerCoded code) ≡ Value most
+  l = typed v
+
   too-long : 65536 < length s → valueAt code s ≡ withheld 43 none
   unfolding valueAt checkedValue
   too-long h = rw (l, long-fault s h)
@@ -86,21 +125,21 @@ module _ (code most : ℕ) (s : List ℕ) (l : largestIn (integerCoded code) ≡
   unfolding valueAt checkedValue
   not-utf8 h n = rw (l, utf8-fault s h n)
 
-  pub fine-value : Fine s → valueAt code s ≡ integerValue most s
+  pub fine-value : Readable s → valueAt code s ≡ integerValue most s
   unfolding valueAt checkedValue
   fine-value f = rw (l, no-fault s (f .short) (f .utf8))
 
-own : (code most : ℕ) (s : List ℕ) {n : ℕ} {p : Place} → largestIn (integerCoded code) ≡ Value most → Fine s
+own : (code most : ℕ) (s : List ℕ) {n : ℕ} {p : Place} → ValueType code most → Readable s
     → integerRead s ≡ refused n p → valueAt code s ≡ withheld n p
 unfolding integerValue
 own code most s l f h = rw (fine-value code most s l f, h)
 
-no-value : (code most : ℕ) (s : List ℕ) {k e : ℕ} {vs : Values} → largestIn (integerCoded code) ≡ Value most → Fine s
+no-value : (code most : ℕ) (s : List ℕ) {k e : ℕ} {vs : Values} → ValueType code most → Readable s
     → integerRead s ≡ accepted k e vs → most < number (baseAt s) (mainPart s) → valueAt code s ≡ withheld 45 none
 unfolding integerValue
 no-value code most s l f h g = rw (fine-value code most s l f, h, lt-leb (number (baseAt s) (mainPart s)) most g)
 
-fits : (code most : ℕ) (s : List ℕ) {k e : ℕ} {vs : Values} → largestIn (integerCoded code) ≡ Value most → Fine s
+fits : (code most : ℕ) (s : List ℕ) {k e : ℕ} {vs : Values} → ValueType code most → Readable s
     → integerRead s ≡ accepted k e vs → number (baseAt s) (mainPart s) ≤ most → valueAt code s ≡ given (number (baseAt s) (mainPart s))
 unfolding integerValue
 fits code most s l f h g = rw (fine-value code most s l f, h, le-leb (number (baseAt s) (mainPart s)) most g)

@@ -7,19 +7,25 @@
 --   literal::decode               decodedOf r ≡ decodeAt code text (length of out at entry), and out at exit ≡ bufferAt code text (out at entry)
 --   literal::integer_from_suffix  r ≡ integerFromSuffix name
 --   literal::float_from_suffix    r ≡ floatFromSuffix name
+--   settle::measure               settledOf r ≡ measureAt text
+--   settle::settle                settledOf r ≡ settleAt text (length of out at entry), and out at exit ≡ settle's bufferAt text (out at entry)
+--   desk::keybasket_settle        r ≡ codeOf (settleAt text (length of out at entry)), and out at exit likewise: the entry for C
 -- "comes to an end": a contract is proved only of code that ends. "with the text untouched": the text is a shared slice, and the last clause of
 -- each contract says that at exit it is what it was at entry. The rest is said below, of the definitions that the contracts cite.
 -- Assumes nothing.
-use Prim.Native.Nat.{ℕ, _^_, _≤_, _<_}
+use Prim.Native.Nat.{ℕ, _+_, _^_, _≤_, _<_}
 use mathlib.Core.Path.{_≡_}
-use mathlib.Core.Logic.{_⊎_}
 use mathlib.Core.List.{List}
 use lib.ListN.{length}
 use Rattle.err.specs.Outcome.{Place, Ends, none, Values, Outcome, refused, accepted}
 use Rattle.buffer.specs.Buffer.{over}
 use Rattle.utf8.specs.Utf8.{Utf8}
-use Rattle.types.specs.declared.Largest.the-variants.{Value, NoValues}
-use Rattle.types.specs.Types.{integerCoded}
+use Rattle.grammar.specs.Notation.{bytes}
+use Rattle.types.specs.Types.{integerCode, floatCode}
+use Rattle.types.specs.declared.IntegerType.{IntegerType}
+use Rattle.types.specs.declared.IntegerType.the-variants.{U8, U16, U32, U64, U128, Usize, I8, I16, I32, I64, I128, Isize}
+use Rattle.types.specs.declared.FloatType.{FloatType}
+use Rattle.types.specs.declared.FloatType.the-variants.{F32, F64}
 use Rattle.integer.specs.Integer.{baseAt, mainPart, integerRead}
 use Rattle.integer.specs.Value.{Valued, given, number}
 use Rattle.integer.specs.Value as valued
@@ -27,12 +33,15 @@ use Rattle.string.specs.String.{kindOf, stringRead, stringValue}
 use Rattle.string.specs.Decode.{Decode, written, withheld}
 use Rattle.string.specs.declared.Kind.{Kind}
 use Rattle.literal.specs.Readings.{entryRead, readAt}
-use Rattle.literal.specs.Values.{largestIn, valueAt}
+use Rattle.literal.specs.Values.{valueAt}
 use Rattle.literal.specs.Decodes.{decodeAt, bufferAt}
 use Rattle.literal.specs.Suffixes.{integerFromSuffix, floatFromSuffix}
+use Rattle.settle.specs.Settled.{Settle, formed, measureAt, settleAt, formAt}
+use Rattle.settle.specs.Settled as settled
+use Rattle.desk.specs.Code.{codeOf}
 
 -- a text that may be read: at most 65,536 bytes, and UTF-8
-pub record Fine (s : List ℕ) : Type 0 where
+pub record Readable (s : List ℕ) : Type 0 where
   pub short : length s ≤ 65536
   pub utf8 : Utf8 s
 
@@ -51,26 +60,37 @@ pub record ReadAnswers : Type 0 where
   pub bad-code : (code : ℕ) (s : List ℕ) → 8 < code → readAt code s ≡ refused 42 none
   pub too-long : (code : ℕ) (s : List ℕ) → code ≤ 8 → 65536 < length s → readAt code s ≡ refused 43 none
   pub not-utf8 : (code : ℕ) (s : List ℕ) → code ≤ 8 → length s ≤ 65536 → (Utf8 s → ⊥) → readAt code s ≡ refused 44 none
-  pub own : (code : ℕ) (s : List ℕ) → code ≤ 8 → Fine s → readAt code s ≡ entryRead code s
+  pub own : (code : ℕ) (s : List ℕ) → code ≤ 8 → Readable s → readAt code s ≡ entryRead code s
 
 -- the answers of the value call: a number, or a refusal
 abbrev pub ValueAnswered : ℕ → Valued → Type 0
 ValueAnswered m (given v) = v < 2 ^ 64
 ValueAnswered m (valued.withheld n p) = Numbered m 45 n p
 
--- the value call likewise: a code with no values is 42, and 45 exactly where the number is above the type's largest value
+-- 01: "type codes 1 to 4 and 7 to 10": the code of each type that has values, and the type's largest value
+pub data ValueType : ℕ → ℕ → Type 0 where
+  u8 : ValueType 1 0xFF
+  u16 : ValueType 2 0xFFFF
+  u32 : ValueType 3 0xFFFFFFFF
+  u64 : ValueType 4 0xFFFFFFFFFFFFFFFF
+  i8 : ValueType 7 0x7F
+  i16 : ValueType 8 0x7FFF
+  i32 : ValueType 9 0x7FFFFFFF
+  i64 : ValueType 10 0x7FFFFFFFFFFFFFFF
+
+-- the value call likewise: every other code is 42, and 45 comes exactly where the number is above the type's largest value
 pub record ValueAnswers : Type 0 where
   pub answered : (code : ℕ) (s : List ℕ) → ValueAnswered (length s) (valueAt code s)
-  pub bad-code : (code : ℕ) (s : List ℕ) → largestIn (integerCoded code) ≡ NoValues → valueAt code s ≡ valued.withheld 42 none
-  pub too-long : (code most : ℕ) (s : List ℕ) → largestIn (integerCoded code) ≡ Value most → 65536 < length s
+  pub bad-code : (code : ℕ) (s : List ℕ) → ((most : ℕ) → ValueType code most → ⊥) → valueAt code s ≡ valued.withheld 42 none
+  pub too-long : (code most : ℕ) (s : List ℕ) → ValueType code most → 65536 < length s
       → valueAt code s ≡ valued.withheld 43 none
-  pub not-utf8 : (code most : ℕ) (s : List ℕ) → largestIn (integerCoded code) ≡ Value most → length s ≤ 65536 → (Utf8 s → ⊥)
+  pub not-utf8 : (code most : ℕ) (s : List ℕ) → ValueType code most → length s ≤ 65536 → (Utf8 s → ⊥)
       → valueAt code s ≡ valued.withheld 44 none
-  pub own : (code most : ℕ) (s : List ℕ) {n : ℕ} {p : Place} → largestIn (integerCoded code) ≡ Value most → Fine s
+  pub own : (code most : ℕ) (s : List ℕ) {n : ℕ} {p : Place} → ValueType code most → Readable s
       → integerRead s ≡ refused n p → valueAt code s ≡ valued.withheld n p
-  pub no-value : (code most : ℕ) (s : List ℕ) {k e : ℕ} {vs : Values} → largestIn (integerCoded code) ≡ Value most → Fine s
+  pub no-value : (code most : ℕ) (s : List ℕ) {k e : ℕ} {vs : Values} → ValueType code most → Readable s
       → integerRead s ≡ accepted k e vs → most < number (baseAt s) (mainPart s) → valueAt code s ≡ valued.withheld 45 none
-  pub fits : (code most : ℕ) (s : List ℕ) {k e : ℕ} {vs : Values} → largestIn (integerCoded code) ≡ Value most → Fine s
+  pub fits : (code most : ℕ) (s : List ℕ) {k e : ℕ} {vs : Values} → ValueType code most → Readable s
       → integerRead s ≡ accepted k e vs → number (baseAt s) (mainPart s) ≤ most → valueAt code s ≡ given (number (baseAt s) (mainPart s))
 
 -- a code with decoded bytes: 5, 7 or 8
@@ -88,24 +108,65 @@ pub record DecodeAnswers : Type 0 where
   pub bad-code : (code have : ℕ) (s : List ℕ) → (Decodes code → ⊥) → decodeAt code s have ≡ withheld 42 none
   pub too-long : (k : Kind) (have : ℕ) (s : List ℕ) → 65536 < length s → decodeAt (kindOf k) s have ≡ withheld 43 none
   pub not-utf8 : (k : Kind) (have : ℕ) (s : List ℕ) → length s ≤ 65536 → (Utf8 s → ⊥) → decodeAt (kindOf k) s have ≡ withheld 44 none
-  pub own : (k : Kind) (have : ℕ) (s : List ℕ) {n : ℕ} {p : Place} → Fine s → stringRead k s ≡ refused n p
+  pub own : (k : Kind) (have : ℕ) (s : List ℕ) {n : ℕ} {p : Place} → Readable s → stringRead k s ≡ refused n p
       → decodeAt (kindOf k) s have ≡ withheld n p
-  pub too-small : (k : Kind) (have : ℕ) (s : List ℕ) {kind e : ℕ} {vs : Values} → Fine s → stringRead k s ≡ accepted kind e vs
+  pub too-small : (k : Kind) (have : ℕ) (s : List ℕ) {kind e : ℕ} {vs : Values} → Readable s → stringRead k s ≡ accepted kind e vs
       → have < length (stringValue k s) → decodeAt (kindOf k) s have ≡ withheld 48 none
-  pub decoded : (k : Kind) (have : ℕ) (s : List ℕ) {kind e : ℕ} {vs : Values} → Fine s → stringRead k s ≡ accepted kind e vs
+  pub decoded : (k : Kind) (have : ℕ) (s : List ℕ) {kind e : ℕ} {vs : Values} → Readable s → stringRead k s ≡ accepted kind e vs
       → length (stringValue k s) ≤ have → decodeAt (kindOf k) s have ≡ written (length (stringValue k s))
   -- "if refused, with the output buffer exactly as it came"
   pub untouched : (code : ℕ) (s buf : List ℕ) {n : ℕ} {p : Place} → decodeAt code s (length buf) ≡ withheld n p → bufferAt code s buf ≡ buf
   -- else it holds the value, and behind it what it held there
   pub filled : (k : Kind) (s buf : List ℕ) {n : ℕ} → decodeAt (kindOf k) s (length buf) ≡ written n → bufferAt (kindOf k) s buf ≡ over (stringValue k s) buf
 
--- both from_suffix answer every name: a type's code, or 0
+-- 01, Type codes: the names
+abbrev pub integerName : IntegerType → List ℕ
+integerName U8 = bytes "u8"
+integerName U16 = bytes "u16"
+integerName U32 = bytes "u32"
+integerName U64 = bytes "u64"
+integerName U128 = bytes "u128"
+integerName Usize = bytes "usize"
+integerName I8 = bytes "i8"
+integerName I16 = bytes "i16"
+integerName I32 = bytes "i32"
+integerName I64 = bytes "i64"
+integerName I128 = bytes "i128"
+integerName Isize = bytes "isize"
+
+abbrev pub floatName : FloatType → List ℕ
+floatName F32 = bytes "f32"
+floatName F64 = bytes "f64"
+
+-- both from_suffix answer every name: the code of the type that has it, and 0 "to every other name, of any bytes and length"
 pub record SuffixAnswers : Type 0 where
-  pub integer : (name : List ℕ) → integerFromSuffix name ≤ 12
-  pub float : (name : List ℕ) → (floatFromSuffix name ≡ 0) ⊎ ((floatFromSuffix name ≡ 13) ⊎ (floatFromSuffix name ≡ 14))
+  pub integer : (t : IntegerType) → integerFromSuffix (integerName t) ≡ integerCode t
+  pub no-integer : (name : List ℕ) → ((t : IntegerType) → name ≡ integerName t → ⊥) → integerFromSuffix name ≡ 0
+  pub float : (t : FloatType) → floatFromSuffix (floatName t) ≡ floatCode t
+  pub no-float : (name : List ℕ) → ((t : FloatType) → name ≡ floatName t → ⊥) → floatFromSuffix name ≡ 0
+
+-- the answers of settling, and of measuring where `have` is 65,536: a kind and a length that fits, or a refusal
+abbrev pub SettleAnswered : ℕ → ℕ → Settle → Type 0
+SettleAnswered m have (formed k n) = (1 ≤ k) × (k ≤ 8) × (n ≤ have) × (n ≤ 65536)
+SettleAnswered m have (settled.withheld n p) = Numbered m 48 n p
+
+-- settling answers every text; what a reading refuses, it refuses so. (When it refuses an accepted text: Demand3.)
+pub record SettleAnswers : Type 0 where
+  pub answered : (have : ℕ) (s : List ℕ) → SettleAnswered (length s) have (settleAt s have)
+  pub own : (have : ℕ) (s : List ℕ) {n : ℕ} {p : Place} → readAt 0 s ≡ refused n p → settleAt s have ≡ settled.withheld n p
+  -- "if refused, with the output buffer exactly as it came"
+  pub untouched : (s buf : List ℕ) {n : ℕ} {p : Place} → settleAt s (length buf) ≡ settled.withheld n p → settled.bufferAt s buf ≡ buf
+  -- else it holds the form, and behind it what it held there
+  pub filled : (s buf : List ℕ) {k n : ℕ} → settleAt s (length buf) ≡ formed k n → (settled.bufferAt s buf ≡ over (formAt s) buf) × (n ≡ length (formAt s))
+  -- the measure of a form is its settling into a buffer that is long enough for every form
+  pub measured : (s : List ℕ) → measureAt s ≡ settleAt s 65536
+  -- the entry for C tells both apart: a length is at most 65,536, a refusal above 100,000
+  pub length-code : (have : ℕ) (s : List ℕ) {k n : ℕ} → settleAt s have ≡ formed k n → codeOf (settleAt s have) ≡ n
+  pub refusal-code : (have : ℕ) (s : List ℕ) {n : ℕ} {p : Place} → settleAt s have ≡ settled.withheld n p → codeOf (settleAt s have) ≡ 100000 + n
 
 pub record Demand1 : Type 0 where
   pub read : ReadAnswers
   pub value : ValueAnswers
   pub decode : DecodeAnswers
   pub suffixes : SuffixAnswers
+  pub settle : SettleAnswers

@@ -15,11 +15,9 @@ use lib.ListN.{length, take, drop}
 use Rattle.err.specs.Outcome.{Values, accepted, Rawness, truth, digits, ends, value, decoded}
 use Rattle.buffer.specs.Buffer.{over}
 use Rattle.boolean.specs.Bool.{boolRead}
-use Rattle.types.specs.Types.{integerCode, largestOf}
-use Rattle.types.specs.declared.IntegerType.{IntegerType}
-use Rattle.types.specs.declared.Largest.the-variants.{Value}
 use Rattle.integer.specs.Integer.{integerRead}
-use Rattle.integer.specs.Value.{integerValue, bounded}
+use Rattle.integer.specs.Value.{bounded}
+use Rattle.integer.specs.Value as litrs
 use Rattle.float.specs.Float.{floatRead}
 use Rattle.character.specs.Single.{charRead, byteRead}
 use Rattle.string.specs.String.{stringRead}
@@ -32,13 +30,13 @@ use Rattle.literal.specs.Values.{valueAt}
 use Rattle.literal.specs.Decodes.{decodeAt, bufferAt}
 use Rattle.literal.specs.Inside.{offsets, OnBoundaries, Rising}
 use Rattle.grammar.specs.Decimal.{Decimal}
-use Rattle.grammar.specs.Values.{numberIn, powered}
+use Rattle.grammar.specs.Values.{radixOf, numberIn, powered}
 use Rattle.grammar.specs.Meaning.{Worth, kindOf, Means}
 use Rattle.grammar.specs.Meaning as worth
-use Rattle.demands.specs.Demand1.{Fine}
+use Rattle.demands.specs.Demand1.{Readable, ValueType}
 
--- of one text: each call's answer is the Rust's. A reading holds kind, part positions, values and the start of the suffix; a refusal holds
--- the error kind's number and the span
+-- of one text: what reading, value and decoding answer is the Rust's. A reading holds kind, part positions, values and the start of the suffix;
+-- a refusal holds the error kind's number and the span. (Both `from_suffix` take names, not texts: Demand1, SuffixAnswers.)
 pub record AsTheRust (s : List ℕ) : Type 0 where
   -- litrs's `parse`
   pub any : readAt 0 s ≡ anyRead s
@@ -52,7 +50,7 @@ pub record AsTheRust (s : List ℕ) : Type 0 where
   pub byte-string : readAt 7 s ≡ stringRead Bytes s
   pub c-string : readAt 8 s ≡ stringRead C s
   -- `IntegerLit::value` at a type whose largest value is `most`
-  pub value : (t : IntegerType) (most : ℕ) → largestOf t ≡ Value most → valueAt (integerCode t) s ≡ integerValue most s
+  pub value : (code most : ℕ) → ValueType code most → valueAt code s ≡ litrs.integerValue most s
   -- the `value` of `StringLit`, `ByteStringLit` and `CStringLit`, written into a buffer that has `have` bytes or holds buf
   pub decoded : (k : Kind) (have : ℕ) → decodeAt (strings.kindOf k) s have ≡ stringDecoded k s have
   pub buffer : (k : Kind) (buf : List ℕ) → bufferAt (strings.kindOf k) s buf ≡ bufferAfter k s buf
@@ -70,7 +68,7 @@ pub record Accepted (s : List ℕ) (code k e : ℕ) (vs : Values) : Type 0 where
   pub rising : Rising (offsets e vs)
 
 pub record Demand2Rust : Type 0 where
-  pub answers : (s : List ℕ) → Fine s → AsTheRust s
+  pub answers : (s : List ℕ) → Readable s → AsTheRust s
   pub readings : (s : List ℕ) (code k e : ℕ) (vs : Values) → readAt code s ≡ accepted k e vs → Accepted s code k e vs
 
 -- Part two, the Reference's. `Means s w x` (crate grammar) says that by the two chapters the text s has the worth w and the suffix x.
@@ -89,8 +87,9 @@ pub record GivesInteger (s : List ℕ) (vs : Values) (n : ℕ) : Type 0 where
   pub start : ℕ
   pub end : ℕ
   pub values : vs ≡ digits base start end
+  pub radix : base ≡ radixOf s
   pub number : numberIn base (part start end s) ≡ n
-  pub given : (t : IntegerType) (most : ℕ) → largestOf t ≡ Value most → valueAt (integerCode t) s ≡ bounded most n
+  pub given : (code most : ℕ) → ValueType code most → valueAt code s ≡ bounded most n
 
 -- a float's reading: the digits up to the first end, those behind a period up to the second, and the exponent behind an `e` up to the third
 pub record GivesFloat (s : List ℕ) (vs : Values) (d : Decimal) : Type 0 where
@@ -120,7 +119,7 @@ Gives s vs (worth.c-string v) = GivesBytes 8 s vs v
 
 pub record Demand2Reference : Type 0 where
   -- an entry accepts a text exactly when the text has a meaning, of a kind that the entry takes
-  pub accepts : (code : ℕ) (s : List ℕ) → code ≤ 8 → Fine s
+  pub accepts : (code : ℕ) (s : List ℕ) → code ≤ 8 → Readable s
       → ((k e : ℕ) × (vs : Values) × (readAt code s ≡ accepted k e vs)) ↔ ((w : Worth) × (x : List ℕ) × Means s w x × Takes code (kindOf w))
   -- then kind and suffix are the meaning's, and what the calls give is its worth
   pub worth : (code k e : ℕ) (s x : List ℕ) (vs : Values) (w : Worth) → readAt code s ≡ accepted k e vs → Means s w x

@@ -1,3 +1,4 @@
 pub mod Marked
 pub mod Demand1
 pub mod Demand2
+pub mod Demand3

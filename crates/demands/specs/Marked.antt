@@ -1,15 +1,37 @@
--- The marked readings (★) of document 01, by entry 0, jointly: `0x` is 6 at 2-2, `"\"` 9 at 1-2, `'''` 26 at 1-2, `0b1e` 41 at 1-2
--- (the slip that is kept), `"\x4"` 9 at 1-4, `"\x4"u` 10 at 1-5.
+-- The marked texts (★) of document 01, by entry 0 and by settling, jointly. `bytes` is a text's UTF-8.
 -- Assumes nothing.
 use mathlib.Core.Path.{_≡_}
-use mathlib.Core.List.{[], _∷_}
-use Rattle.err.specs.Outcome.{refused, between}
-use Rattle.literal.specs.Readings.{anyRead}
+use Prim.Native.Nat.{ℕ}
+use Prim.Native.String.{String}
+use Rattle.err.specs.Outcome.{refused, none, between}
+use Rattle.grammar.specs.Notation.{bytes}
+use Rattle.literal.specs.Readings.{readAt}
+use Rattle.settle.specs.Settled.{formed, withheld, settleAt, formAt}
 
 pub record MarkedReadings : Type 0 where
-  pub no-digits : anyRead (48 ∷ 120 ∷ []) ≡ refused 6 (between 2 2)
-  pub lone-backslash : anyRead (34 ∷ 92 ∷ 34 ∷ []) ≡ refused 9 (between 1 2)
-  pub three-quotes : anyRead (39 ∷ 39 ∷ 39 ∷ []) ≡ refused 26 (between 1 2)
-  pub starting-with-e : anyRead (48 ∷ 98 ∷ 49 ∷ 101 ∷ []) ≡ refused 41 (between 1 2)
-  pub cut-escape : anyRead (34 ∷ 92 ∷ 120 ∷ 52 ∷ 34 ∷ []) ≡ refused 9 (between 1 4)
-  pub cut-escape-suffixed : anyRead (34 ∷ 92 ∷ 120 ∷ 52 ∷ 34 ∷ 117 ∷ []) ≡ refused 10 (between 1 5)
+  pub no-digits : readAt 0 (bytes "0x") ≡ refused 6 (between 2 2)
+  pub lone-backslash : readAt 0 (bytes "\"\\\"") ≡ refused 9 (between 1 2)
+  pub three-quotes : readAt 0 (bytes "'''") ≡ refused 26 (between 1 2)
+  -- the slip that is kept
+  pub starting-with-e : readAt 0 (bytes "0b1e") ≡ refused 41 (between 1 2)
+  pub cut-escape : readAt 0 (bytes "\"\\x4\"") ≡ refused 9 (between 1 4)
+  pub cut-escape-suffixed : readAt 0 (bytes "\"\\x4\"u") ≡ refused 10 (between 1 5)
+
+-- a text is given a settled form of a kind and a length, in a buffer of just that length
+pub record Forms (text settled : String) (kind len : ℕ) : Type 0 where
+  pub answer : settleAt (bytes text) len ≡ formed kind len
+  pub form : formAt (bytes text) ≡ bytes settled
+
+pub record MarkedForms : Type 0 where
+  pub zero-x : Forms "0b0x3" "00x3" 2 4
+  pub zero-b : Forms "00b1" "00b1" 2 4
+  pub reduced : Forms "1.50e1" "15e0" 3 4
+  pub zero-float : Forms "0e1000001" "0e0" 3 3
+  pub too-far : (have : ℕ) → settleAt (bytes "10e1000000") have ≡ withheld 46 none
+  pub just-near : Forms "0.1e1000001" "1e1000000" 3 9
+  pub c-string : Forms "c\"é\"" "c\"\\xc3\\xa9\"" 8 11
+  pub hex : Forms "0x_1F" "31" 2 2
+
+pub record Marked : Type 0 where
+  pub readings : MarkedReadings
+  pub forms : MarkedForms

@@ -13,7 +13,7 @@ abbrev pub shift : ℕ → Place → Place
 shift by none = none
 shift by (between a e) = between (a + by) (e + by)
 
--- a span ends at most at m
+-- a span starts before it ends, and ends at most at m
 abbrev pub Ends : ℕ → Place → Type 0
 Ends m none = Unit {0}
 Ends m (between a e) = (a ≤ e) × (e ≤ m)
@@ -35,7 +35,7 @@ pub data Values : Type 0 where
   value : ℕ → Values
   decoded : Rawness → ℕ → Values
 
--- A reading, as document 01 coins the word: "kind, start of suffix, and" its values; "it is accepted or refused", with a
+-- A reading, in document 01's sense: "kind, start of suffix, and" its values; "it is accepted or refused", with a
 -- refusal's number and span.
 pub data Outcome : Type 0 where
   refused : ℕ → Place → Outcome

@@ -5,17 +5,15 @@ use mathlib.Core.Logic.{inl}
 use mathlib.Core.Bool.{Bool, true, false, not, _&&_}
 use mathlib.Core.List.{List, [], _∷_, _++_, tail-eq-of-cons-eq}
 use Prim.Native.Nat.{ℕ, suc, _+_, _*_, _≤_, _<_}
-use Prim.Native.Char.{code}
-use Prim.Native.String.{String}
 use native.Mathlib.Omega.{arith}
 use lib.Dec.{T, eqb, eqb-refl}
 use lib.ListN.{length}
 use Rattle.utf8.specs.Utf8.{encode}
-use Rattle.grammar.specs.Notation.{all, byte, _∪_, times}
+use Rattle.grammar.specs.Notation.{bytes, all, byte, _∪_, times}
 use Rattle.grammar.specs.Suffixes.{DEC-DIGIT, LOW, E, XID-START, XID-CONTINUE}
 use Rattle.grammar.specs.Numbers.{BIN-DIGIT, OCT-DIGIT, HEX-DIGIT, SIGN}
 use Rattle.grammar.specs.Values.{digitValue, numberIn, radixOf, integerValue}
-use Rattle.grammar.specs.Escapes.{QUOTE-ESCAPE, SIMPLE-ESCAPE, ASCII-ESCAPE, BYTE-ESCAPE, HEX-GROUPS, UNICODE-ESCAPE, WHITESPACE}
+use Rattle.grammar.specs.Escapes.{QUOTE-ESCAPE, COMMON-ESCAPE, ASCII-ESCAPE, BYTE-ESCAPE, HEX-GROUPS, UNICODE-ESCAPE, WHITESPACE}
 use Rattle.grammar.specs.Quoted.{except, Pieces, none, some, STRING-PIECE, C-STRING-PIECE, CHAR-CONTENT, BYTE-CONTENT, closing}
 use Rattle.grammar.specs.Meaning.{Worth, Means, is-char, is-string, is-raw-string, is-byte, is-c-string}
 use Rattle.grammar.proofs.Scan.{integerOk, integerPart, integerSuffix, floatOk, floatParts, suffixOk}
@@ -24,11 +22,6 @@ use Rattle.grammar.proofs.Integers.{suffix-ok}
 use Rattle.grammar.proofs.Splits.{hashes-unique, closing-unique}
 use Rattle.grammar.proofs.NumberSplits.{integer-means, float-means}
 use Rattle.grammar.proofs.Unambiguous.{means-form, no-number}
-
--- a text as it is written, in UTF-8
-abbrev pub bytes : String → List ℕ
-bytes Prim.Native.String.[] = []
-bytes (Prim.Native.String._∷_ c s) = encode (code c) ++ bytes s
 
 -- no meaning
 abbrev pub None : List ℕ → Type 0
@@ -254,11 +247,11 @@ texts-hold =
       char-quote = char-means (bytes "\\'") 39 (CHAR-CONTENT.quote QUOTE-ESCAPE.apostrophe);
       char-code = char-means (bytes "\\x52") 82 (CHAR-CONTENT.ascii (ASCII-ESCAPE.code 53 50 tt tt));
       char-unicode = char-means (bytes "\\u{00E6}") 230 (CHAR-CONTENT.unicode ae);
-      char-lf = char-means (bytes "\\n") 10 (CHAR-CONTENT.ascii (ASCII-ESCAPE.simple SIMPLE-ESCAPE.lf));
+      char-lf = char-means (bytes "\\n") 10 (CHAR-CONTENT.ascii (ASCII-ESCAPE.simple COMMON-ESCAPE.lf));
       string-quotes = string-means _ _ (front (bytes "\\\"") (bytes "\"") string-quote
           (string-chars (bytes "foo") tt (front (bytes "\\\"") (bytes "\"") string-quote none)));
       string-left-to-right = string-means _ _ (front (bytes "\\\\") (bytes "\\")
-          (STRING-PIECE.ascii 92 (ASCII-ESCAPE.simple SIMPLE-ESCAPE.reverse-solidus) refl)
+          (STRING-PIECE.ascii 92 (ASCII-ESCAPE.simple COMMON-ESCAPE.reverse-solidus) refl)
           (string-chars (bytes "x52") tt none));
       string-continue = string-means _ _ (string-chars (bytes "foo") tt (front (bytes "\\\n\n     ") []
           (STRING-PIECE.continue (record { blanks = bytes "\n     "; is = refl; white = tt; next = λ t. t }) refl)

@@ -9,7 +9,7 @@ use native.Mathlib.Omega.{arith}
 use lib.Dec.{T, leb, eqb, eqb→eq, eqb-refl}
 use lib.ListN.{length, drop, length-append}
 use borrow.Author.Tests.{ne-eqb}
-use Rattle.grammar.specs.Notation.{Class, Lang, all, begins, _∪_, one, many, opt, text, Ahead, Longest, range, byte, _·_, _or_}
+use Rattle.grammar.specs.Notation.{Class, Lang, all, begins, _∪_, one, many, opt, text, Followed, Longest, range, byte, _·_, _or_}
 use Rattle.grammar.specs.Suffixes.{DEC-DIGIT, LOW, E, SUFFIX, SUFFIX-NO-E}
 use Rattle.grammar.specs.Numbers.{BIN-DIGIT, OCT-DIGIT, HEX-DIGIT, SIGN, DEC-LITERAL, FLOAT-EXPONENT, POINT-PART, FRACTION-PART, EXPONENT-PART, RESERVED-NUMBER, bin-out, oct-out, period, exp, bin-empty, oct-empty, hex-empty, exp-empty, FLOAT-LITERAL, no-digit}
 use Rattle.grammar.proofs.Scan.{takeWhile, dropWhile, any, empty, suffixOk, prefixed}
@@ -401,7 +401,7 @@ unfolding DEC-DIGIT
 low-dec i l d = omega (arith, low-is i l, range-is 48 57 i d)
 
 -- no digits in the exponent: the reading refuses
-exp-empty-out : (s : List ℕ) → Ahead (DEC-LITERAL · opt (text (46 ∷ []) · DEC-LITERAL) · one E · opt (one SIGN) · many LOW) (no-digit DEC-DIGIT) s → T (floatParts s .ok) → ⊥
+exp-empty-out : (s : List ℕ) → Followed (DEC-LITERAL · opt (text (46 ∷ []) · DEC-LITERAL) · one E · opt (one SIGN) · many LOW) (no-digit DEC-DIGIT) s → T (floatParts s .ok) → ⊥
 exp-empty-out s m ok = go (o .0) (o .3) (o .2) refl
   where
     u : List ℕ

@@ -17,7 +17,7 @@ use Rattle.grammar.specs.Notation.{Class, byte, _∪_, all, begins}
 use Rattle.grammar.specs.Suffixes.{LOW}
 use Rattle.grammar.specs.Numbers.{HEX-DIGIT}
 use Rattle.grammar.specs.Values.{digitValue, numberIn, before}
-use Rattle.grammar.specs.Escapes.{QUOTE-ESCAPE, apostrophe, quotation-mark, SIMPLE-ESCAPE, lf, cr, ht, reverse-solidus, nul, ASCII-ESCAPE, BYTE-ESCAPE, HEX-GROUPS, UNICODE-ESCAPE, WHITESPACE, STRING-CONTINUE}
+use Rattle.grammar.specs.Escapes.{QUOTE-ESCAPE, apostrophe, quotation-mark, COMMON-ESCAPE, lf, cr, ht, reverse-solidus, nul, ASCII-ESCAPE, BYTE-ESCAPE, HEX-GROUPS, UNICODE-ESCAPE, WHITESPACE, STRING-CONTINUE}
 use Rattle.grammar.specs.Quoted.{except, CHAR-CONTENT, BYTE-CONTENT, STRING-PIECE, BYTE-STRING-PIECE, C-STRING-PIECE}
 use Rattle.grammar.proofs.Scan.{takeWhile}
 use Rattle.grammar.proofs.Runs.{not-T, and-l, and-r, and-i, or-l, or-r, span-only, all-append, before-stop}
@@ -64,7 +64,7 @@ quote-found : {t : List ℕ} {v : ℕ} (x : List ℕ) → QUOTE-ESCAPE t v → f
 quote-found x apostrophe = refl
 quote-found x quotation-mark = refl
 
-simple-found : {t : List ℕ} {v : ℕ} (x : List ℕ) → SIMPLE-ESCAPE t v → found (t ++ x) ≡ code (length t) v
+simple-found : {t : List ℕ} {v : ℕ} (x : List ℕ) → COMMON-ESCAPE t v → found (t ++ x) ≡ code (length t) v
 simple-found x lf = refl
 simple-found x cr = refl
 simple-found x ht = refl

@@ -8,7 +8,7 @@ use Prim.Native.Nat.{ℕ, zero, suc, _+_, _≤_, _<_, suc-le-suc}
 use native.Mathlib.Omega.{arith}
 use lib.Dec.{T, leb, eqb, eqb→eq, eqb-refl, leb→le}
 use lib.ListN.{length, drop, length-append}
-use Rattle.grammar.specs.Notation.{Class, Lang, all, begins, _∪_, one, many, opt, text, Ahead, Longest, range, byte, _·_}
+use Rattle.grammar.specs.Notation.{Class, Lang, all, begins, _∪_, one, many, opt, text, Followed, Longest, range, byte, _·_}
 use Rattle.grammar.specs.Suffixes.{DEC-DIGIT, LOW, E, XID-START, XID-CONTINUE, SUFFIX, SUFFIX-NO-E}
 use Rattle.grammar.specs.Numbers.{BIN-DIGIT, OCT-DIGIT, HEX-DIGIT, SIGN, DEC-LITERAL, RADIX-LITERAL, BIN-LITERAL, OCT-LITERAL, HEX-LITERAL, INTEGER-PART, RESERVED-NUMBER, bin-out, oct-out, period, exp, bin-empty, oct-empty, hex-empty, exp-empty, INTEGER-LITERAL, bare, no-digit}
 use Rattle.grammar.proofs.Scan.{takeWhile, dropWhile, any, empty, suffixOk, digitsOk, prefixed, integerOk, integerPart, integerSuffix}
@@ -190,7 +190,7 @@ pub record Exponent (s : List ℕ) : Type 0 where
   pub dec : Dec front
   pub next : T (begins (byte 46 ∪ E) back)
 
-pub exponent-open : (s : List ℕ) → Ahead (DEC-LITERAL · opt (text (46 ∷ []) · DEC-LITERAL) · one E · opt (one SIGN) · many LOW) (no-digit DEC-DIGIT) s → Exponent s
+pub exponent-open : (s : List ℕ) → Followed (DEC-LITERAL · opt (text (46 ∷ []) · DEC-LITERAL) · one E · opt (one SIGN) · many LOW) (no-digit DEC-DIGIT) s → Exponent s
 exponent-open s m =
     let a = m .2 .is in
     let o = a .4 in
@@ -221,7 +221,7 @@ radix-prefixed c d s q y e m =
     let r = radix-open c d q m in
     two-prefixed c s (r .rest ++ y) (e ∙ ap (λ (u : List ℕ). u ++ y) (r .is))
 
-pub empty-prefixed : (c : ℕ) (d : Class) (s : List ℕ) → Ahead (text (48 ∷ c ∷ []) · many LOW) (no-digit d) s → T (prefixed c s)
+pub empty-prefixed : (c : ℕ) (d : Class) (s : List ℕ) → Followed (text (48 ∷ c ∷ []) · many LOW) (no-digit d) s → T (prefixed c s)
 empty-prefixed c d s m =
     let a = m .2 .is in
     two-prefixed c s (a .1 ++ m .1) (m .2 .split ∙ ap (λ (u : List ℕ). u ++ m .1) (a .2) ∙ ap (λ (u : List ℕ). (u ++ a .1) ++ m .1) (a .3))
@@ -380,7 +380,7 @@ pub record Empty (c : ℕ) (d : Class) (t : List ℕ) : Type 0 where
   pub run : T (all LOW lows)
   pub next : T (begins (d ∪ LOW) back) → ⊥
 
-empty-open : (c : ℕ) (d : Class) (t : List ℕ) → Ahead (text (48 ∷ c ∷ []) · many LOW) (no-digit d) (48 ∷ c ∷ t) → Empty c d t
+empty-open : (c : ℕ) (d : Class) (t : List ℕ) → Followed (text (48 ∷ c ∷ []) · many LOW) (no-digit d) (48 ∷ c ∷ t) → Empty c d t
 empty-open c d t m =
     let l = m .2 in
     let a = l .is in
@@ -400,7 +400,7 @@ empty-open c d t m =
 
 -- and made
 empty-make : (c : ℕ) (d : Class) (t lows back : List ℕ) → t ≡ lows ++ back → T (all LOW lows) → (T (begins (d ∪ LOW) back) → ⊥)
-    → Ahead (text (48 ∷ c ∷ []) · many LOW) (no-digit d) (48 ∷ c ∷ t)
+    → Followed (text (48 ∷ c ∷ []) · many LOW) (no-digit d) (48 ∷ c ∷ t)
 empty-make c d t lows back e a n = (
   48 ∷ c ∷ lows,
   back,
@@ -441,7 +441,7 @@ module _ (c : ℕ) (d : Class) (w : Apart c d) (t : List ℕ) (ok : T (digitsOk 
       let a = after d t (f .rest) y ok (f .is) (f .run) (begins-both (d ∪ LOW) E n y b) in
       not-T (begins E y) (a .no-e) b
 
-  clean-empty : Ahead (text (48 ∷ c ∷ []) · many LOW) (no-digit d) (48 ∷ c ∷ t) → ⊥
+  clean-empty : Followed (text (48 ∷ c ∷ []) · many LOW) (no-digit d) (48 ∷ c ∷ t) → ⊥
   clean-empty m =
       let o = empty-open c d t m in
       let g = after d t (o .lows) (o .back) ok (o .is) (low-more d (o .lows) (o .run)) (o .next) in
@@ -455,7 +455,7 @@ module _ (c : ℕ) (d : Class) (w : Apart c d) (t : List ℕ) (ok : T (digitsOk 
 module _ (c : ℕ) (d : Class) (w : Apart c d)
     (inj : (q : List ℕ) → RADIX-LITERAL c d q → INTEGER-PART q)
     (only : (t q y : List ℕ) → 48 ∷ c ∷ t ≡ q ++ y → INTEGER-PART q → (length q ≤ 1) ⊎ RADIX-LITERAL c d q)
-    (res : (s : List ℕ) → Ahead (text (48 ∷ c ∷ []) · many LOW) (no-digit d) s → RESERVED-NUMBER s)
+    (res : (s : List ℕ) → Followed (text (48 ∷ c ∷ []) · many LOW) (no-digit d) s → RESERVED-NUMBER s)
     (clean : (t : List ℕ) → T (digitsOk d t) → RESERVED-NUMBER (48 ∷ c ∷ t) → ⊥) where
   radix-in : (t : List ℕ) → T (digitsOk d t) → INTEGER-LITERAL (48 ∷ c ∷ t)
   radix-in t ok =
@@ -560,7 +560,7 @@ oct-past k g t = ⊎-elim (λ b. omega (arith, range-is 48 55 k b, range-is 56 5
 pub other : (c c′ : ℕ) (d : Class) (t q y : List ℕ) → 48 ∷ c ∷ t ≡ q ++ y → RADIX-LITERAL c′ d q → c ≢ c′ → ⊥
 other c c′ d t q y e m n = n (front c c′ d t q y e m .same)
 
-other-empty : (c c′ : ℕ) (d : Class) (t : List ℕ) → Ahead (text (48 ∷ c′ ∷ []) · many LOW) (no-digit d) (48 ∷ c ∷ t) → c ≢ c′ → ⊥
+other-empty : (c c′ : ℕ) (d : Class) (t : List ℕ) → Followed (text (48 ∷ c′ ∷ []) · many LOW) (no-digit d) (48 ∷ c ∷ t) → c ≢ c′ → ⊥
 other-empty c c′ d t m n = n (eqb→eq c c′ (empty-prefixed c′ d (48 ∷ c ∷ t) m))
 
 clean-bin : (t : List ℕ) → T (digitsOk BIN-DIGIT t) → RESERVED-NUMBER (48 ∷ 98 ∷ t) → ⊥

@@ -15,25 +15,25 @@ pub data QUOTE-ESCAPE : List ℕ → ℕ → Type 0 where
   apostrophe : QUOTE-ESCAPE (92 ∷ 39 ∷ []) 39
   quotation-mark : QUOTE-ESCAPE (92 ∷ 34 ∷ []) 34
 
--- \n | \r | \t | \\ | \0 : LF, CR, HT, REVERSE SOLIDUS, NUL
-pub data SIMPLE-ESCAPE : List ℕ → ℕ → Type 0 where
-  lf : SIMPLE-ESCAPE (92 ∷ 110 ∷ []) 10
-  cr : SIMPLE-ESCAPE (92 ∷ 114 ∷ []) 13
-  ht : SIMPLE-ESCAPE (92 ∷ 116 ∷ []) 9
-  reverse-solidus : SIMPLE-ESCAPE (92 ∷ 92 ∷ []) 92
-  nul : SIMPLE-ESCAPE (92 ∷ 48 ∷ []) 0
+-- \n | \r | \t | \\ | \0, which ASCII_ESCAPE and BYTE_ESCAPE have in common: LF, CR, HT, REVERSE SOLIDUS, NUL
+pub data COMMON-ESCAPE : List ℕ → ℕ → Type 0 where
+  lf : COMMON-ESCAPE (92 ∷ 110 ∷ []) 10
+  cr : COMMON-ESCAPE (92 ∷ 114 ∷ []) 13
+  ht : COMMON-ESCAPE (92 ∷ 116 ∷ []) 9
+  reverse-solidus : COMMON-ESCAPE (92 ∷ 92 ∷ []) 92
+  nul : COMMON-ESCAPE (92 ∷ 48 ∷ []) 0
 
 -- ASCII_ESCAPE : \x OCT_DIGIT HEX_DIGIT | \n | \r | \t | \\ | \0
 -- "7-bit escapes": "the result of interpreting the final two characters in the escape sequence as a hexadecimal integer"
 pub data ASCII-ESCAPE : List ℕ → ℕ → Type 0 where
   code : (a b : ℕ) → T (OCT-DIGIT a) → T (HEX-DIGIT b) → ASCII-ESCAPE (92 ∷ 120 ∷ a ∷ b ∷ []) (digitValue a * 16 + digitValue b)
-  simple : {t : List ℕ} {v : ℕ} → SIMPLE-ESCAPE t v → ASCII-ESCAPE t v
+  simple : {t : List ℕ} {v : ℕ} → COMMON-ESCAPE t v → ASCII-ESCAPE t v
 
 -- BYTE_ESCAPE : \x HEX_DIGIT HEX_DIGIT | \n | \r | \t | \\ | \0 | \' | \"
 -- "8-bit escapes": likewise
 pub data BYTE-ESCAPE : List ℕ → ℕ → Type 0 where
   code : (a b : ℕ) → T (HEX-DIGIT a) → T (HEX-DIGIT b) → BYTE-ESCAPE (92 ∷ 120 ∷ a ∷ b ∷ []) (digitValue a * 16 + digitValue b)
-  simple : {t : List ℕ} {v : ℕ} → SIMPLE-ESCAPE t v → BYTE-ESCAPE t v
+  simple : {t : List ℕ} {v : ℕ} → COMMON-ESCAPE t v → BYTE-ESCAPE t v
   quote : {t : List ℕ} {v : ℕ} → QUOTE-ESCAPE t v → BYTE-ESCAPE t v
 
 -- ( HEX_DIGIT _^* )^n
@@ -54,7 +54,8 @@ pub record UNICODE-ESCAPE (t : List ℕ) (v : ℕ) : Type 0 where
   pub value : v ≡ numberIn 16 digits
   pub scalar : Scalar v
 
--- HT, LF and SPACE. The chapter has CR among them, but the productions keep CR out of every string.
+-- HT, LF and SPACE: 01, Escapes: "all following spaces, tabs and LFs". The chapter has CR among them, but the productions keep CR out of every
+-- string.
 unfoldable pub WHITESPACE : Class
 WHITESPACE = byte 9 ∪ byte 10 ∪ byte 32
 

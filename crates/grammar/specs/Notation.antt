@@ -5,12 +5,20 @@ use mathlib.Core.Logic.{_⊎_}
 use mathlib.Core.Bool.{Bool, true, false, _&&_, _||_}
 use mathlib.Core.List.{List, [], _∷_, _++_}
 use Prim.Native.Nat.{ℕ, zero, suc, _≤_}
+use Prim.Native.Char.{code}
+use Prim.Native.String.{String}
 use lib.Dec.{T, leb, eqb}
 use lib.ListN.{length}
+use Rattle.utf8.specs.Utf8.{encode}
 
 infixr 60 _·_
 infixr 50 _or_
 infixr 70 _∪_
+-- a text as it is written here, in UTF-8
+abbrev pub bytes : String → List ℕ
+bytes Prim.Native.String.[] = []
+bytes (Prim.Native.String._∷_ c s) = encode (code c) ++ bytes s
+
 -- the texts of a production
 abbrev pub Lang : Type 1
 Lang = List ℕ → Type 0
@@ -71,5 +79,5 @@ pub record Longest (A : Lang) (s p x : List ℕ) : Type 0 where
   pub most : (q y : List ℕ) → s ≡ q ++ y → A q → length q ≤ length p
 
 -- s begins with a text of A, the longest, and goes on as f says: `A .. followed by ..`
-abbrev pub Ahead : Lang → (List ℕ → Bool) → Lang
-Ahead A f s = (u : List ℕ) × (v : List ℕ) × Longest A s u v × T (f v)
+abbrev pub Followed : Lang → (List ℕ → Bool) → Lang
+Followed A f s = (u : List ℕ) × (v : List ℕ) × Longest A s u v × T (f v)

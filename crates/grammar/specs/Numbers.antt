@@ -6,7 +6,7 @@ use mathlib.Core.Bool.{Bool, false, not, _&&_}
 use mathlib.Core.List.{List, [], _∷_}
 use Prim.Native.Nat.{ℕ}
 use lib.Dec.{T}
-use Rattle.grammar.specs.Notation.{Lang, Class, range, byte, _∪_, begins, one, many, text, _·_, _or_, opt, Ahead, Longest}
+use Rattle.grammar.specs.Notation.{Lang, Class, range, byte, _∪_, begins, one, many, text, _·_, _or_, opt, Followed, Longest}
 use Rattle.grammar.specs.Suffixes.{DEC-DIGIT, LOW, E, XID-START, SUFFIX, SUFFIX-NO-E}
 
 -- BIN_DIGIT : [0-1]
@@ -59,24 +59,25 @@ abbrev pub no-digit : Class → List ℕ → Bool
 no-digit d v = not (begins d v)
 
 -- RESERVED_NUMBER: s begins with a reserved form, and then it is no token ("rejected by the tokenizer instead of being interpreted as
--- separate tokens"). A constructor for each line of the production. The last line is read by its prose, "no digits in the exponent": `2e_3` has one.
+-- separate tokens"). A constructor for each line of the production. Each line's front is taken at its longest, and the last four are read by
+-- their prose, "it contains no digits" and "no digits in the exponent": `0b_1`, `1e+5` and `2e_3` have one.
 pub data RESERVED-NUMBER (s : List ℕ) : Type 0 where
   -- BIN_LITERAL [2-9]
-  bin-out : Ahead BIN-LITERAL (begins (range 50 57)) s → RESERVED-NUMBER s
+  bin-out : Followed BIN-LITERAL (begins (range 50 57)) s → RESERVED-NUMBER s
   -- OCT_LITERAL [8-9]
-  oct-out : Ahead OCT-LITERAL (begins (range 56 57)) s → RESERVED-NUMBER s
+  oct-out : Followed OCT-LITERAL (begins (range 56 57)) s → RESERVED-NUMBER s
   -- ( BIN_LITERAL | OCT_LITERAL | HEX_LITERAL ) . (not immediately followed by ., _ or an XID_Start character)
-  period : Ahead (BIN-LITERAL or OCT-LITERAL or HEX-LITERAL) bare s → RESERVED-NUMBER s
+  period : Followed (BIN-LITERAL or OCT-LITERAL or HEX-LITERAL) bare s → RESERVED-NUMBER s
   -- ( BIN_LITERAL | OCT_LITERAL ) (e|E)
-  exp : Ahead (BIN-LITERAL or OCT-LITERAL) (begins E) s → RESERVED-NUMBER s
+  exp : Followed (BIN-LITERAL or OCT-LITERAL) (begins E) s → RESERVED-NUMBER s
   -- 0b _^* end of input or not BIN_DIGIT
-  bin-empty : Ahead (text (48 ∷ 98 ∷ []) · many LOW) (no-digit BIN-DIGIT) s → RESERVED-NUMBER s
+  bin-empty : Followed (text (48 ∷ 98 ∷ []) · many LOW) (no-digit BIN-DIGIT) s → RESERVED-NUMBER s
   -- 0o _^* end of input or not OCT_DIGIT
-  oct-empty : Ahead (text (48 ∷ 111 ∷ []) · many LOW) (no-digit OCT-DIGIT) s → RESERVED-NUMBER s
+  oct-empty : Followed (text (48 ∷ 111 ∷ []) · many LOW) (no-digit OCT-DIGIT) s → RESERVED-NUMBER s
   -- 0x _^* end of input or not HEX_DIGIT
-  hex-empty : Ahead (text (48 ∷ 120 ∷ []) · many LOW) (no-digit HEX-DIGIT) s → RESERVED-NUMBER s
+  hex-empty : Followed (text (48 ∷ 120 ∷ []) · many LOW) (no-digit HEX-DIGIT) s → RESERVED-NUMBER s
   -- DEC_LITERAL ( . DEC_LITERAL)^? (e|E) (+|-)^? end of input or not DEC_DIGIT
-  exp-empty : Ahead (DEC-LITERAL · opt (text (46 ∷ []) · DEC-LITERAL) · one E · opt (one SIGN) · many LOW) (no-digit DEC-DIGIT) s → RESERVED-NUMBER s
+  exp-empty : Followed (DEC-LITERAL · opt (text (46 ∷ []) · DEC-LITERAL) · one E · opt (one SIGN) · many LOW) (no-digit DEC-DIGIT) s → RESERVED-NUMBER s
 
 -- INTEGER_LITERAL : ( DEC_LITERAL | BIN_LITERAL | OCT_LITERAL | HEX_LITERAL ) SUFFIX_NO_E^?
 pub record INTEGER-LITERAL (s : List ℕ) : Type 0 where

@@ -92,7 +92,8 @@ BYTE-STRING-LITERAL = Quoted BYTE-STRING-PIECE (98 ∷ 34 ∷ [])
 
 -- ~[" \ IsolatedCR NUL] | BYTE_ESCAPE except \0 or \x00 | UNICODE_ESCAPE except \u{0}, \u{00}, .., \u{000000} | STRING_CONTINUE
 -- "Each single Unicode character contributes its UTF-8 representation", "each 8-bit escape contributes a single byte", "each unicode escape
--- contributes the UTF-8 representation of its escaped value"; "byte 0x00 is not permitted within a C string", however it is written
+-- contributes the UTF-8 representation of its escaped value"; "byte 0x00 is not permitted within a C string", however it is written. The null byte
+-- that the chapter puts behind the represented bytes is no part of the worth (01: "A C value has no closing zero byte").
 pub data C-STRING-PIECE (t w r : List ℕ) : Type 0 where
   char : (c : ℕ) → t ≡ c ∷ [] → T (except (byte 34 ∪ byte 92 ∪ byte 13 ∪ byte 0) c) → w ≡ c ∷ [] → C-STRING-PIECE t w r
   escape : (v : ℕ) → BYTE-ESCAPE t v → 1 ≤ v → w ≡ v ∷ [] → C-STRING-PIECE t w r

@@ -16,8 +16,7 @@ LOW = byte 95
 unfoldable pub E : Class
 E = byte 101 ∪ byte 69
 
--- XID_Start and XID_Continue within ASCII. Above ASCII everything passes: the one departure that 01 names (Suffix and digits: "Non-ASCII
--- always passes: the one departure from the Reference, which wants XID").
+-- XID_Start and XID_Continue within ASCII. 01, Suffix and digits: "Non-ASCII always passes: the one departure from the Reference, which wants XID"
 unfoldable pub XID-START : Class
 XID-START = range 97 122 ∪ range 65 90 ∪ leb 128
 

@@ -5,7 +5,7 @@ use mathlib.Core.List.{List, [], _∷_}
 use Rattle.err.specs.Outcome.{Values, truth, digits, ends, value, decoded}
 use Rattle.utf8.specs.Utf8.{Boundary}
 
--- the offsets that a reading names, in their order: the ends of its parts, and the start of its suffix, e
+-- the offsets that a reading names, in their order: where its parts start or end, and the start of its suffix, e
 abbrev pub offsets : ℕ → Values → List ℕ
 offsets e (truth t) = e ∷ []
 offsets e (digits base a z) = a ∷ z ∷ e ∷ []

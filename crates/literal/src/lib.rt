@@ -1,5 +1,5 @@
 // The calls that a user makes, of any code and any bytes. A refusal is the first of 42, 43, 44, litrs's own, 45 or 48.
-// The last clause of each contract says that the text at exit is what it was at entry.
+// The last clause of each public function's contract says that the text at exit is what it was at entry.
 use err::ParseErrorKind;
 use err::Reading;
 use err::Span;
@@ -31,7 +31,7 @@ pub enum Checked {
 }
 
 // At most 65,536 bytes, and UTF-8.
-pub fn check_text(text: &[u8]) -> Checked
+fn check_text(text: &[u8]) -> Checked
     ensures { λ r. ⌜ faultOf r ≡ textFault (now (text .entry)) ⌝ }
 {
     if 65536 < text.len() {

@@ -24,7 +24,7 @@ pub enum Kind {
 
 impl Kind {
     // Where the body or the hashes start: behind `"` or `r`, and the kind's letter.
-    fn offset(self) -> usize
+    pub fn offset(self) -> usize
         ensures { λ r. ⌜ r ≡ offsetOf self ⌝ }
     {
         match self {
@@ -34,7 +34,7 @@ impl Kind {
         }
     }
 
-    fn allowed(self) -> Allowed
+    pub fn allowed(self) -> Allowed
         ensures { λ r. ⌜ r ≡ allowedIn self ⌝ }
     {
         match self {

@@ -1,23 +1,26 @@
--- `batch::write_hex` meets its contract.
+-- `lines::add_hex` meets its contract.
 -- Assumes nothing.
 use Prim.Native.Nat.{_≤_, _-_}
 use mathlib.Core.Path.{_≡_}
 use lib.ListN.{length}
 use borrow.Author.Needs.{needs}
-use Rattle.batch.proofs.write_hex.Statement.{statement}
-use Rattle.batch.proofs.write_hex.Tie as tie
+use Rattle.lines.proofs.add_hex.Statement.{statement}
+use Rattle.lines.proofs.add_hex.Tie as tie
 
 abbrev Inv-loop : tie.InvT-loop
-Inv-loop hex₀ bytes at₀ i₀ hex at i = (length hex ≡ length hex₀) × (at ≤ length hex)
+Inv-loop line₀ at bytes end₀ i₀ line end i = (length line ≡ length line₀) × (end ≤ length line)
 
 abbrev μ-loop : tie.MeasureT-loop
-μ-loop hex₀ bytes at₀ i₀ hex at i = length bytes - i
+μ-loop line₀ at bytes end₀ i₀ line end i = length bytes - i
 
-slice-aggregate-write-all : tie.Need-slice-aggregate-write-all Inv-loop μ-loop
-slice-aggregate-write-all c = search needs
+slice-aggregate-add : tie.Need-slice-aggregate-add Inv-loop μ-loop
+slice-aggregate-add c = search needs
 
-write-all-requires : tie.Need-write-all-requires Inv-loop μ-loop
-write-all-requires c κs = search needs
+add-requires : tie.Need-add-requires Inv-loop μ-loop
+add-requires c κs = search needs
+
+same-length : tie.Need-same-length Inv-loop μ-loop
+same-length c = search needs
 
 returns : tie.Need-returns Inv-loop μ-loop
 returns c = search needs
@@ -28,8 +31,8 @@ loop-holds c = search needs
 sub-if2 : tie.Need-sub-if2 Inv-loop μ-loop
 sub-if2 c = search needs
 
-same-length : tie.Need-same-length Inv-loop μ-loop
-same-length c = search needs
+same-length-2 : tie.Need-same-length-2 Inv-loop μ-loop
+same-length-2 c = search needs
 
 returns-2 : tie.Need-returns-2 Inv-loop μ-loop
 returns-2 c = search needs
@@ -49,8 +52,8 @@ shared-slice-read-put-hex c = search needs
 put-hex-requires : tie.Need-put-hex-requires Inv-loop μ-loop
 put-hex-requires c κs = search needs
 
-add-at : tie.Need-add-at Inv-loop μ-loop
-add-at c = search needs
+add-end : tie.Need-add-end Inv-loop μ-loop
+add-end c = search needs
 
 add-i : tie.Need-add-i Inv-loop μ-loop
 add-i c = search needs
@@ -61,49 +64,34 @@ loop-less c = search needs
 loop-again : tie.Need-loop-again Inv-loop μ-loop
 loop-again c = search needs
 
-sub-write-all : tie.Need-sub-write-all Inv-loop μ-loop
-sub-write-all c = search needs
-
-part-write-all-start : tie.Need-part-write-all-start Inv-loop μ-loop
-part-write-all-start c = search needs
-
-part-write-all-end : tie.Need-part-write-all-end Inv-loop μ-loop
-part-write-all-end c = search needs
-
-write-all-requires-2 : tie.Need-write-all-requires-2 Inv-loop μ-loop
-write-all-requires-2 c κs = search needs
-
-same-length-2 : tie.Need-same-length-2 Inv-loop μ-loop
-same-length-2 c = search needs
+same-length-3 : tie.Need-same-length-3 Inv-loop μ-loop
+same-length-3 c = search needs
 
 returns-3 : tie.Need-returns-3 Inv-loop μ-loop
 returns-3 c = search needs
 
-pub write-hex-spec : {M : Type 1} → statement M
-write-hex-spec =
+pub add-hex-spec : {M : Type 1} → statement M
+add-hex-spec =
     tie.close
     (tie.spec
     Inv-loop
     μ-loop
-    slice-aggregate-write-all
-    write-all-requires
+    slice-aggregate-add
+    add-requires
+    same-length
     returns
     loop-holds
     sub-if2
-    same-length
+    same-length-2
     returns-2
     sub-put-hex
     part-put-hex-start
     part-put-hex-end
     shared-slice-read-put-hex
     put-hex-requires
-    add-at
+    add-end
     add-i
     loop-less
     loop-again
-    sub-write-all
-    part-write-all-start
-    part-write-all-end
-    write-all-requires-2
-    same-length-2
+    same-length-3
     returns-3)

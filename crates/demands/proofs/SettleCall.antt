@@ -1,0 +1,108 @@
+-- Settling, measuring and the entry for C answer every text.
+-- Assumes nothing.
+use mathlib.Core.Path.{_≡_, refl, ap, _∙_, sym}
+use mathlib.Core.List.{List, []}
+use Prim.Native.Nat.{ℕ, _+_, _≤_}
+use native.Mathlib.Omega.{arith}
+use borrow.Author.Tests.{leb-true, le-leb}
+use lib.Dec.{leb, eqb}
+use lib.ListN.{length, drop}
+use Rattle.err.specs.Outcome.{Place, Outcome, refused, accepted}
+use Rattle.scan.proofs.Cases.{cond-in, cond-eq}
+use Rattle.buffer.specs.Buffer.{over}
+use Rattle.grammar.specs.Meaning.{Worth}
+use Rattle.grammar.specs.Meaning as worth
+use Rattle.form.specs.Form.{formOf, faultOf}
+use Rattle.form.specs.Reduced.{reduce}
+use Rattle.literal.specs.Readings.{readAt}
+use Rattle.settle.specs.Worths.{worthOf}
+use Rattle.settle.specs.Settled.{Settle, formed, withheld, measured, measureOf, measureAt, fitted, settleAt, formBy, formAt, bufferBy, bufferAt}
+use Rattle.desk.specs.Code.{codeOf}
+use Rattle.demands.specs.Demand1.{Answered, SettleAnswered, SettleAnswers}
+use Rattle.demands.proofs.ReadCall.{read-answers}
+
+-- ---- the measure
+
+-- what a measure says of a text of m bytes with the form f
+abbrev Measure : ℕ → List ℕ → Settle → Type 0
+Measure m f (formed k n) = (1 ≤ k) × (k ≤ 8) × (n ≤ 65536) × (n ≡ length f)
+Measure m f (withheld n p) = SettleAnswered m 0 (withheld n p)
+
+fault-most : (w : Worth) → (faultOf w ≡ 0 → ⊥) → (1 ≤ faultOf w) × (faultOf w ≤ 48)
+fault-most w no-zero = (omega (arith, no-zero), most w)
+  where
+    most : (w : Worth) → faultOf w ≤ 48
+    most (worth.integer n) = cond-in (λ (f : ℕ). f ≤ 48) (leb n 18446744073709551615) (λ e. omega arith) (λ e. omega arith)
+    most (worth.float d) = cond-in (λ (f : ℕ). f ≤ 48) (leb (reduce d .up + reduce d .down) 1000000) (λ e. omega arith) (λ e. omega arith)
+    most (worth.bool b) = omega arith
+    most (worth.char c) = omega arith
+    most (worth.string v) = omega arith
+    most (worth.byte b) = omega arith
+    most (worth.byte-string v) = omega arith
+    most (worth.c-string v) = omega arith
+
+measured-is : (m k : ℕ) (w : Worth) (x : List ℕ) → 1 ≤ k → k ≤ 8 → Measure m (formOf w x) (measured k w x)
+unfolding measured
+measured-is m k w x a b =
+    let P : Settle → Type 0 = Measure m (formOf w x) in
+    cond-eq P (faultOf w) 0
+    (λ z. cond-in P (leb (length (formOf w x)) 65536) (λ t. (a, b, leb-true (length (formOf w x)) 65536 t, refl)) (λ t. (omega arith, omega arith, tt)))
+    (λ z. let f = fault-most w z in (f .0, f .1, tt))
+
+measure-is : (s : List ℕ) → Measure (length s) (formAt s) (measureAt s)
+unfolding measureAt formAt
+measure-is s = go (readAt 0 s) (read-answers .answered 0 s)
+  where
+    go : (o : Outcome) → Answered (length s) o → Measure (length s) (formBy s o) (measureOf s o)
+    go (refused n p) h = (h .0, omega (arith, h .1), h .2)
+    go (accepted k e vs) h = measured-is (length s) k (worthOf k s vs) (drop e s) (h .0) (h .1)
+
+-- ---- settling
+
+answered : (have : ℕ) (s : List ℕ) → SettleAnswered (length s) have (settleAt s have)
+unfolding settleAt
+answered have s = go (measureAt s) (measure-is s)
+  where
+    go : (x : Settle) → Measure (length s) (formAt s) x → SettleAnswered (length s) have (fitted have x)
+    go (formed k n) h =
+        cond-in (SettleAnswered (length s) have) (leb n have) (λ t. (h .0, h .1, leb-true n have t, h .2)) (λ t. (omega arith, omega arith, tt))
+    go (withheld n p) h = h
+
+own : (have : ℕ) (s : List ℕ) {n : ℕ} {p : Place} → readAt 0 s ≡ refused n p → settleAt s have ≡ withheld n p
+unfolding settleAt measureAt
+own have s h = rw h
+
+untouched : (s buf : List ℕ) {n : ℕ} {p : Place} → settleAt s (length buf) ≡ withheld n p → bufferAt s buf ≡ buf
+unfolding bufferAt
+untouched s buf h = rw h
+
+filled : (s buf : List ℕ) {k n : ℕ} → settleAt s (length buf) ≡ formed k n → (bufferAt s buf ≡ over (formAt s) buf) × (n ≡ length (formAt s))
+unfolding bufferAt settleAt
+filled s buf {k} {n} h = (rw h, go (measureAt s) (measure-is s) h)
+  where
+    go : (x : Settle) → Measure (length s) (formAt s) x → fitted (length buf) x ≡ formed k n → n ≡ length (formAt s)
+    go (formed l m) i e =
+        cond-in (λ (y : Settle). y ≡ formed k n → n ≡ length (formAt s)) (leb m (length buf))
+        (λ t e. let q : m ≡ n = cc in sym q ∙ i .3)
+        (λ t e. absurd (let z : _≡_ {A = ℕ} 0 1 = cc in omega arith)) e
+    go (withheld m p) i e = absurd (let z : _≡_ {A = ℕ} 0 1 = cc in omega arith)
+
+measured-by : (s : List ℕ) → measureAt s ≡ settleAt s 65536
+unfolding settleAt
+measured-by s = go (measureAt s) (measure-is s)
+  where
+    go : (x : Settle) → Measure (length s) (formAt s) x → x ≡ fitted 65536 x
+    go (formed k n) h = rw (le-leb n 65536 (h .2))
+    go (withheld n p) h = refl
+
+pub settle-answers : SettleAnswers
+settle-answers =
+    record {
+      answered = answered;
+      own = own;
+      untouched = untouched;
+      filled = filled;
+      measured = measured-by;
+      length-code = λ have s h. ap codeOf h;
+      refusal-code = λ have s h. ap codeOf h;
+    }

@@ -1,0 +1,13 @@
+pub mod Reduce
+pub mod Fit
+pub mod Bytes
+pub mod ByBytes
+pub mod AgainQuoted
+pub mod Decimals
+pub mod Behind
+pub mod AgainInteger
+pub mod AgainFloat
+pub mod Again
+pub mod Same
+pub mod Fits
+pub mod NoLineFeed

@@ -1,0 +1,3 @@
+pub mod Escapes
+pub mod Reduced
+pub mod Form

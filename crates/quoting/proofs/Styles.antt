@@ -1,0 +1,136 @@
+-- The forms of a style: by the tests of the code, one behind the other, how long they are, and that they are those of crate form.
+-- Assumes nothing.
+use mathlib.Core.Path.{_≡_, refl, sym, ap, _∙_}
+use mathlib.Core.Bool.{Bool, true, false, _&&_}
+use mathlib.Core.List.{List, [], _∷_, _++_, append-assoc, append-nil}
+use Prim.Native.Nat.{ℕ, _+_, _*_, _≤_, _<_}
+use native.Mathlib.Omega.{arith}
+use native.Mathlib.Numerals.{add-one}
+use lib.Dec.{ltb, leb, eqb}
+use lib.ListN.{length, take, drop, getD, length-append, take-append-drop}
+use lib.Seq.{take-suc}
+use borrow.Author.Tests.{lt-ltb, le-ltb, ne-eqb}
+use Rattle.buffer.specs.Digits.{hexDigits}
+use Rattle.scan.proofs.Cases.{cond-in, cond-lt}
+use Rattle.utf8.specs.Utf8.{Utf8, Scalar, encode}
+use Rattle.utf8.proofs.Laws.{is-row1}
+use Rattle.form.specs.Escapes.{letterFor, xForm, asciiForm, charForm, byteForm, charForms, byteForms}
+use Rattle.form.proofs.Fit.{Each}
+use Rattle.form.proofs.ByBytes.{textForms, high-bytes, by-bytes}
+use Rattle.quoting.specs.Styled.{highForm, styledForm, styledForms, printable}
+
+-- an `\x` escape has four bytes
+pub x-length : (b : ℕ) → length (xForm b) ≡ 4
+unfolding hexDigits
+x-length b = refl
+
+module _ (w : Bool) (q : ℕ) where
+  -- ---- one byte, by the tests of the code
+
+  pub is-high : (b : ℕ) → 127 < b → styledForm w q b ≡ highForm w b
+  unfolding styledForm
+  is-high b h = simp (le-ltb b 128 (omega arith))
+
+  pub is-letter : (b l : ℕ) → b ≤ 127 → l ≡ letterFor q b → (l ≡ 0 → ⊥) → styledForm w q b ≡ 92 ∷ l ∷ []
+  unfolding styledForm asciiForm
+  is-letter b l h e n = rw (← e) (simp (lt-ltb b 128 (omega arith), ne-eqb l 0 n))
+
+  pub is-plain : (b : ℕ) → b ≤ 127 → letterFor q b ≡ 0 → printable b ≡ true → styledForm w q b ≡ b ∷ []
+  unfolding styledForm asciiForm printable
+  is-plain b h e p = simp (lt-ltb b 128 (omega arith), e, p)
+
+  pub is-x : (b : ℕ) → b ≤ 127 → letterFor q b ≡ 0 → printable b ≡ false → styledForm w q b ≡ xForm b
+  unfolding styledForm asciiForm printable
+  is-x b h e p = simp (lt-ltb b 128 (omega arith), e, p)
+
+  -- ---- all of them, one behind the other
+
+  pub forms-append : (u v : List ℕ) → styledForms w q (u ++ v) ≡ styledForms w q u ++ styledForms w q v
+  forms-append [] v = refl
+  forms-append (b ∷ u) v = rw (forms-append u v) (sym (append-assoc (styledForm w q b) (styledForms w q u) (styledForms w q v)))
+
+  pub forms-one : (b : ℕ) → styledForms w q (b ∷ []) ≡ styledForm w q b
+  forms-one b = append-nil (styledForm w q b)
+
+  -- an ASCII character is a byte
+  pub forms-ascii : (c : ℕ) → c < 128 → styledForms w q (encode c) ≡ styledForm w q c
+  forms-ascii c h = rw (is-row1 c h) (forms-one c)
+
+  -- one byte more of a value, which fits where all of them do
+  pub forms-more : (v : List ℕ) (i : ℕ) → i < length v
+      → styledForms w q (take (i + 1) v) ≡ styledForms w q (take i v) ++ styledForm w q (getD v i 0)
+  forms-more v i h = rw (add-one, take-suc v i 0 h, forms-append) (simp append-nil)
+
+  pub forms-room : (v : List ℕ) (i : ℕ) → i < length v
+      → length (styledForms w q (take i v)) + length (styledForm w q (getD v i 0)) ≤ length (styledForms w q v)
+  forms-room v i h =
+      let whole : length (styledForms w q v)
+      ≡ (length (styledForms w q (take i v)) + length (styledForm w q (getD v i 0))) + length (styledForms w q (drop (i + 1) v)) =
+      ap (λ (l : List ℕ). length (styledForms w q l)) (sym (take-append-drop (i + 1) v))
+      ∙ rw (forms-append, forms-more v i h) (simp length-append) in
+      omega arith
+
+  -- ---- how long they are
+
+  pub form-short : (b : ℕ) → length (styledForm w q b) ≤ 4
+  unfolding styledForm asciiForm
+  form-short b =
+      let P : List ℕ → Type 0 = λ l. length l ≤ 4 in
+      let x : P (xForm b) = omega (arith, x-length b) in
+      cond-in P (ltb b 128)
+      (λ e. cond-in P (eqb (letterFor q b) 0)
+      (λ f. cond-in P (leb 32 b && ltb b 127) {x = b ∷ []} {y = xForm b} (λ g. omega arith) (λ g. x)) (λ f. omega arith))
+      (λ e. cond-in P w (λ f. omega arith) (λ f. x))
+
+  -- the answer of a measurer
+  pub measured : (b n : ℕ) → n ≡ length (styledForm w q b) → (n ≡ length (styledForm w q b)) × (n ≤ 4)
+  measured b n e = (e, omega (arith, e, form-short b))
+
+  pub forms-short : (v : List ℕ) → length (styledForms w q v) ≤ 4 * length v
+  forms-short [] = omega arith
+  forms-short (b ∷ v) = rw length-append (omega (arith, form-short b, forms-short v))
+
+-- ---- a character above 127
+
+high-wide : (q : ℕ) (l : List ℕ) → Each (λ b. 128 ≤ b) l → styledForms true q l ≡ l
+high-wide q [] h = refl
+high-wide q (b ∷ l) h = rw (is-high true q b (omega (arith, h .0))) (ap (λ (t : List ℕ). b ∷ t) (high-wide q l (h .1)))
+
+high-escaped : (q : ℕ) (l : List ℕ) → Each (λ b. 128 ≤ b) l → length (styledForms false q l) ≡ 4 * length l
+high-escaped q [] h = refl
+high-escaped q (b ∷ l) h = rw (is-high false q b (omega (arith, h .0)), length-append) (omega (arith, x-length b, high-escaped q l (h .1)))
+
+-- it stands as itself, or each of its bytes has four
+pub char-wide : (q c : ℕ) → 128 ≤ c → styledForms true q (encode c) ≡ encode c
+char-wide q c g = high-wide q (encode c) (high-bytes c g)
+
+pub char-escaped : (q c : ℕ) → 128 ≤ c → length (styledForms false q (encode c)) ≡ 4 * length (encode c)
+char-escaped q c g = high-escaped q (encode c) (high-bytes c g)
+
+-- ---- THE LAWS: these are the forms that document 01 asks for
+
+-- a byte of kinds 6, 7 and 8, and all of them
+pub byte-style : (q b : ℕ) → styledForm false q b ≡ byteForm q b
+unfolding styledForm byteForm
+byte-style q b = refl
+
+pub bytes-style : (q : ℕ) (v : List ℕ) → styledForms false q v ≡ byteForms q v
+bytes-style q [] = refl
+bytes-style q (b ∷ v) = rw (byte-style q b, bytes-style q v)
+
+-- a character of kind 4
+pub char-style : (q c : ℕ) → Scalar c → styledForms true q (encode c) ≡ charForm q c
+unfolding charForm styledForm
+char-style q c _ =
+    sym (cond-lt (λ (t : List ℕ). t ≡ styledForms true q (encode c)) c 128
+    (λ h. sym (forms-ascii true q c h ∙ rw (lt-ltb c 128 h)))
+    (λ g. sym (char-wide q c g)))
+
+-- a string of kind 5
+pub text-style : (v : List ℕ) → Utf8 v → styledForms true 34 v ≡ charForms 34 v
+unfolding styledForm
+text-style v u = bytewise v ∙ sym (by-bytes v u)
+  where
+    bytewise : (v : List ℕ) → styledForms true 34 v ≡ textForms 34 v
+    bytewise [] = refl
+    bytewise (b ∷ v) = rw (bytewise v)

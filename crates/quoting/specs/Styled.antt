@@ -1,0 +1,25 @@
+-- The bytes of a value as a settled form writes them, over what the kinds differ in: the quote, and whether a byte above 127 stands as itself.
+-- `proofs/Styles` shows that these are `charForms` and `byteForms` of crate form.
+-- Assumes nothing.
+use mathlib.Core.Bool.{Bool, cond, _&&_}
+use mathlib.Core.List.{List, [], _∷_, _++_}
+use Prim.Native.Nat.{ℕ}
+use lib.Dec.{ltb, leb}
+use Rattle.form.specs.Escapes.{asciiForm, xForm}
+
+-- a byte above 127: itself in string literals, an escape in the others
+abbrev pub highForm : Bool → ℕ → List ℕ
+highForm wide b = cond wide (b ∷ []) (xForm b)
+
+-- a byte of a value, where the kind's quote is q
+unfoldable pub styledForm : Bool → ℕ → ℕ → List ℕ
+styledForm wide q b = cond (ltb b 128) (asciiForm q b) (highForm wide b)
+
+-- all of them, in order
+abbrev pub styledForms : Bool → ℕ → List ℕ → List ℕ
+styledForms wide q [] = []
+styledForms wide q (b ∷ v) = styledForm wide q b ++ styledForms wide q v
+
+-- ASCII that no escape stands for: space to `~`
+unfoldable pub printable : ℕ → Bool
+printable b = leb 32 b && ltb b 127

@@ -1,0 +1,233 @@
+// The value of a quoted literal as its settled form writes it: measured, and written behind what a lent buffer already holds.
+use body::Step;
+use escape::Allowed;
+use escape::Unescaped;
+ghost use mathlib.Core.Path.{_≡_};
+ghost use mathlib.Core.List.{_∷_, []};
+ghost use Prim.Native.Nat.{_*_, _≤_, _<_};
+ghost use lib.ListN.{length};
+ghost use Rattle.buffer.specs.Buffer.{Wrote};
+ghost use Rattle.utf8.specs.Utf8.{Scalar, encode};
+ghost use Rattle.escape.specs.Escape.{bytesOf, Valid};
+ghost use Rattle.body.specs.Body.{body};
+ghost use Rattle.form.specs.Escapes.{letterFor, xForm};
+ghost use Rattle.quoting.specs.Styled.{highForm, styledForm, styledForms, printable};
+
+// How a kind writes its value: its quote, and whether a byte above 127 stands as itself.
+pub struct Style {
+    pub quote: u8,
+    pub wide: bool,
+}
+
+// What stands behind the backslash of an escape of two bytes, or 0.
+fn letter(b: u8, quote: u8) -> u8
+    ensures { λ r. ⌜ r ≡ letterFor quote b ⌝ }
+{
+    match b {
+        b'\\' => b'\\',
+        b'\n' => b'n',
+        b'\r' => b'r',
+        b'\t' => b't',
+        0 => b'0',
+        _ => if b == quote { quote } else { 0 },
+    }
+}
+
+fn is_printable(b: u8) -> bool
+    ensures { λ r. ⌜ r ≡ printable b ⌝ }
+{
+    if b < 32 {
+        return false;
+    }
+    b < 127
+}
+
+fn high_len(wide: bool, b: u8) -> usize
+    ensures { λ r. ⌜ r ≡ length (highForm wide b) ⌝ }
+{
+    if wide { 1 } else { 4 }
+}
+
+// How long one byte of a value is in the form.
+pub fn form_len(b: u8, style: Style) -> usize
+    ensures { λ r. ⌜ (r ≡ length (styledForm (style .wide) (style .quote) b)) × (r ≤ 4) ⌝ }
+{
+    if 127 < b {
+        return high_len(style.wide, b);
+    }
+    if letter(b, style.quote) != 0 {
+        return 2;
+    }
+    if is_printable(b) {
+        return 1;
+    }
+    4
+}
+
+// `\x` and two hex digits.
+fn put_x(out: &mut [u8], b: u8) -> usize
+    requires { ⌜ 4 ≤ length (now out) ⌝ }
+    ensures { λ r. ⌜ Wrote (xForm b) r (now (out .entry)) (now (out .exit)) ⌝ }
+{
+    let at = buffer::put_two(out, b'\\', b'x');
+    at + buffer::put_hex(&mut out[at..], b)
+}
+
+fn put_high(out: &mut [u8], wide: bool, b: u8) -> usize
+    requires { ⌜ length (highForm wide b) ≤ length (now out) ⌝ }
+    ensures { λ r. ⌜ Wrote (highForm wide b) r (now (out .entry)) (now (out .exit)) ⌝ }
+{
+    if wide {
+        return buffer::put_one(out, b);
+    }
+    put_x(out, b)
+}
+
+// One byte of a value.
+pub fn put_form(out: &mut [u8], b: u8, style: Style) -> usize
+    requires { ⌜ length (styledForm (style .wide) (style .quote) b) ≤ length (now out) ⌝ }
+    ensures { λ r. ⌜ Wrote (styledForm (style .wide) (style .quote) b) r (now (out .entry)) (now (out .exit)) ⌝ }
+{
+    if 127 < b {
+        return put_high(out, style.wide, b);
+    }
+    let l = letter(b, style.quote);
+    if l != 0 {
+        return buffer::put_two(out, b'\\', l);
+    }
+    if is_printable(b) {
+        return buffer::put_one(out, b);
+    }
+    put_x(out, b)
+}
+
+// How long the bytes of a slice are in the form.
+pub fn forms_len(s: &[u8], style: Style) -> usize
+    requires { ⌜ length (now s) ≤ 65536 ⌝ }
+    ensures { λ r. ⌜ (r ≡ length (styledForms (style .wide) (style .quote) (now (s .entry)))) × (r ≤ 4 * length (now (s .entry))) ⌝ }
+{
+    let mut n: usize = 0;
+    let mut i = 0;
+    while i < s.len() {
+        n += form_len(s[i], style);
+        i += 1;
+    }
+    n
+}
+
+// The bytes of a slice, each behind the one before.
+pub fn put_forms(out: &mut [u8], s: &[u8], style: Style) -> usize
+    requires { ⌜ length (styledForms (style .wide) (style .quote) (now s)) ≤ length (now out) ⌝ }
+    ensures { λ r. ⌜ Wrote (styledForms (style .wide) (style .quote) (now (s .entry))) r (now (out .entry)) (now (out .exit)) ⌝ }
+{
+    let mut at: usize = 0;
+    let mut i = 0;
+    while i < s.len() {
+        at += put_form(&mut out[at..], s[i], style);
+        i += 1;
+    }
+    at
+}
+
+// How long a character is in the form: an ASCII one as a byte, another by the bytes of its encoding.
+pub fn char_len(c: u32, style: Style) -> usize
+    ensures { λ r. ⌜ (r ≡ length (styledForms (style .wide) (style .quote) (encode c))) × (r ≤ 16) ⌝ }
+{
+    if c < 128 {
+        return form_len(c as u8, style);
+    }
+    let n = utf8::encoded_len(c);
+    if style.wide {
+        return n;
+    }
+    4 * n
+}
+
+// The bytes of a character's encoding, each as an escape.
+fn put_encoded(out: &mut [u8], c: u32, style: Style) -> usize
+    requires { ⌜ Scalar c × (length (styledForms (style .wide) (style .quote) (encode c)) ≤ length (now out)) ⌝ }
+    ensures { λ r. ⌜ Wrote (styledForms (style .wide) (style .quote) (encode c)) r (now (out .entry)) (now (out .exit)) ⌝ }
+{
+    let mut bytes = [0; 4];
+    let n = utf8::encode_char(&mut bytes, c);
+    put_forms(out, &bytes[..n], style)
+}
+
+pub fn put_char(out: &mut [u8], c: u32, style: Style) -> usize
+    requires { ⌜ Scalar c × (length (styledForms (style .wide) (style .quote) (encode c)) ≤ length (now out)) ⌝ }
+    ensures { λ r. ⌜ Wrote (styledForms (style .wide) (style .quote) (encode c)) r (now (out .entry)) (now (out .exit)) ⌝ }
+{
+    if c < 128 {
+        return put_form(out, c as u8, style);
+    }
+    if style.wide {
+        return utf8::encode_char(out, c);
+    }
+    put_encoded(out, c, style)
+}
+
+// What an escape or a byte of a body stands for.
+fn value_len(u: Unescaped, style: Style) -> usize
+    ensures { λ r. ⌜ (r ≡ length (styledForms (style .wide) (style .quote) (bytesOf u))) × (r ≤ 16) ⌝ }
+{
+    match u {
+        Unescaped::Nothing => 0,
+        Unescaped::Byte(b) => form_len(b, style),
+        Unescaped::Unicode(c) => char_len(c, style),
+    }
+}
+
+fn put_value(out: &mut [u8], u: Unescaped, style: Style) -> usize
+    requires { ⌜ Valid u × (length (styledForms (style .wide) (style .quote) (bytesOf u)) ≤ length (now out)) ⌝ }
+    ensures { λ r. ⌜ Wrote (styledForms (style .wide) (style .quote) (bytesOf u)) r (now (out .entry)) (now (out .exit)) ⌝ }
+{
+    match u {
+        Unescaped::Nothing => 0,
+        Unescaped::Byte(b) => put_form(out, b, style),
+        Unescaped::Unicode(c) => put_char(out, c, style),
+    }
+}
+
+// How long the value of a quoted body is in the form: s is what stands behind the opening quote, to the end of the text.
+pub fn body_len(s: &[u8], k: Allowed, style: Style) -> usize
+    requires { ⌜ length (now s) ≤ 65536 ⌝ }
+    ensures { λ r. ⌜ (r ≡ length (styledForms (style .wide) (style .quote) (body k (now (s .entry)) .value))) × (r ≤ 4 * length (now (s .entry))) ⌝ }
+{
+    let last = utf8::last_len(s);
+    let mut i = 0;
+    let mut n: usize = 0;
+    loop {
+        let e = body::plain_end(s, i, k);
+        n += forms_len(&s[i..e], style);
+        let next = body::step_at(s, e, last, k);
+        match next {
+            Step::Piece(u, len) => {
+                n += value_len(u, style);
+                i = e + len;
+            }
+            Step::Stop(_) => return n,
+        }
+    }
+}
+
+// The value of a quoted body, piece by piece.
+pub fn put_body(out: &mut [u8], s: &[u8], k: Allowed, style: Style) -> usize
+    requires { ⌜ length (styledForms (style .wide) (style .quote) (body k (now s) .value)) ≤ length (now out) ⌝ }
+    ensures { λ r. ⌜ Wrote (styledForms (style .wide) (style .quote) (body k (now (s .entry)) .value)) r (now (out .entry)) (now (out .exit)) ⌝ }
+{
+    let last = utf8::last_len(s);
+    let mut i = 0;
+    let mut at: usize = 0;
+    loop {
+        let e = body::plain_end(s, i, k);
+        at += put_forms(&mut out[at..], &s[i..e], style);
+        let next = body::step_at(s, e, last, k);
+        match next {
+            Step::Piece(u, len) => {
+                at += put_value(&mut out[at..], u, style);
+                i = e + len;
+            }
+            Step::Stop(_) => return at,
+        }
+    }
+}

@@ -1,0 +1,9 @@
+pub mod Figures
+pub mod Numbers
+pub mod Capped
+pub mod Signs
+pub mod Reducing
+pub mod Shape
+pub mod Texts
+pub mod Forms
+pub mod Examples

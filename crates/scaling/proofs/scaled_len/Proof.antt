@@ -1,0 +1,69 @@
+-- `scaling::scaled_len` meets its contract.
+-- Assumes nothing.
+use borrow.Author.Needs.{needs}
+use Prim.Native.Nat.{_+_, _≤_}
+use native.Mathlib.Omega.{arith}
+use lib.ListN.{length-append}
+use Rattle.buffer.proofs.Decimals.{decimal-u64}
+use Rattle.scaling.proofs.Figures.{part-short}
+use Rattle.scaling.proofs.scaled_len.Statement.{statement}
+use Rattle.scaling.proofs.scaled_len.Tie as tie
+
+-- the digits and the power are within their bounds
+short : (c : tie.After-decimal-len) → c .before .figures-len .result + 1 + c .decimal-len .result ≤ 65557
+short c =
+    let a = c .before .before .before .before in
+    let r = a .args .r in
+    let s = part-short (r .first) (r .last) 65536 (a .args .mantissa .now) (a .pre .0) in
+    omega (arith, c .before .figures-len .ensures .1, c .decimal-len .ensures, decimal-u64 (r .power) (omega arith))
+
+sub-figures-len : tie.Need-sub-figures-len
+sub-figures-len c = search needs
+
+part-figures-len-start : tie.Need-part-figures-len-start
+part-figures-len-start c = search needs
+
+part-figures-len-end : tie.Need-part-figures-len-end
+part-figures-len-end c = search needs
+
+figures-len-requires : tie.Need-figures-len-requires
+figures-len-requires c κs = search needs
+
+add-n : tie.Need-add-n
+add-n c = search needs
+
+decimal-len-requires : tie.Need-decimal-len-requires
+decimal-len-requires c κs = search needs
+
+add-n-2 : tie.Need-add-n-2
+add-n-2 c = omega (arith, short c)
+
+add-result : tie.Need-add-result
+add-result c = omega (arith, short (c .before))
+
+returns : tie.Need-returns
+returns c =
+    let f = c .before .before .figures-len .ensures .0 in
+    let d = c .before .decimal-len .ensures in
+    (rw (c .if1 .taken) (simp length-append (omega arith)), omega (arith, short (c .before)))
+
+returns-2 : tie.Need-returns-2
+returns-2 c =
+    let f = c .before .before .figures-len .ensures .0 in
+    let d = c .before .decimal-len .ensures in
+    (rw (c .if1 .left) (simp length-append (omega arith)), omega (arith, short (c .before)))
+
+pub scaled-len-spec : {M : Type 1} → statement M
+scaled-len-spec =
+    tie.close
+    (tie.spec
+    sub-figures-len
+    part-figures-len-start
+    part-figures-len-end
+    figures-len-requires
+    add-n
+    decimal-len-requires
+    add-n-2
+    add-result
+    returns
+    returns-2)

@@ -1,0 +1,217 @@
+-- Measure, form and buffer of a reading, by the form without its suffix.
+-- Assumes nothing.
+use mathlib.Core.Path.{_≡_, refl, sym, ap, _∙_}
+use mathlib.Core.Bool.{Bool, true, false, cond}
+use mathlib.Core.List.{List, _++_}
+use Prim.Native.Nat.{ℕ, _+_, _-_, _≤_, _<_}
+use native.Mathlib.Omega.{arith}
+use borrow.Author.Tests.{le-leb, lt-leb}
+use lib.Dec.{eqb, leb}
+use lib.ListN.{length, drop, length-append, length-drop}
+use Rattle.err.specs.Outcome.{Place, none, Outcome, refused, accepted}
+use Rattle.buffer.specs.Buffer.{over}
+use Rattle.grammar.specs.Meaning.{Worth}
+use Rattle.grammar.specs.Meaning as worth
+use Rattle.form.specs.Form.{bareForm, formOf, faultOf, integerForm, reducedForm}
+use Rattle.form.specs.Reduced.{reduce}
+use Rattle.grammar.specs.Decimal.{Decimal}
+use Rattle.integer.specs.Value.{within}
+use Rattle.integer.specs.declared.Within.the-variants.{Number, Over}
+use Rattle.utf8.specs.Utf8.{Scalar, encode}
+use Rattle.quoting.specs.Styled.{styledForm, styledForms}
+use Rattle.quoting.proofs.Styles.{char-style, byte-style}
+use Rattle.scaling.specs.Scaled.{near, Length, known, too-far}
+use Rattle.literal.specs.Readings.{readAt}
+use Rattle.settle.proofs.Readings.{short, start}
+use Rattle.settle.specs.Worths.{worthOf}
+use Rattle.settle.specs.Settled.{Settle, formed, withheld, measured, measureOf, measureAt, settleAt, formBy, formAt, bufferAt, BareForm, len, bad, bareLen, bareBy, bareFormBy, kindIn, suffixIn, Roomy, Fits}
+
+-- a length is no refusal, and a form none
+pub no-len {ℓ} : {A : Type ℓ} {n m : ℕ} {p : Place} → bad m p ≡ len n → A
+no-len e = let z : _≡_ {A = ℕ} 0 1 = cc in absurd (omega arith)
+
+pub no-form {ℓ} : {A : Type ℓ} {k n m : ℕ} {p : Place} → withheld m p ≡ formed k n → A
+no-form e = let z : _≡_ {A = ℕ} 0 1 = cc in absurd (omega arith)
+
+-- ---- of a worth w, before a suffix x
+
+module _ (w : Worth) (x : List ℕ) where
+  bare-bad : (k : ℕ) {m : ℕ} {p : Place} → bareLen w x ≡ bad m p → measured k w x ≡ withheld m p
+  unfolding bareLen measured
+  bare-bad k {m} {p} = by-test (eqb (faultOf w) 0) _
+    where
+      by-test : (t : Bool) (a : Settle) → cond t (len (length (bareForm w x))) (bad (faultOf w) none) ≡ bad m p
+          → cond t a (withheld (faultOf w) none) ≡ withheld m p
+      by-test true a e = no-len (sym e)
+      by-test false a e = cc
+
+  -- a form is there
+  bare-len : {n : ℕ} → bareLen w x ≡ len n → (eqb (faultOf w) 0 ≡ true) × (n ≡ length (bareForm w x))
+  unfolding bareLen
+  bare-len {n} = by-test (eqb (faultOf w) 0)
+    where
+      by-test : (t : Bool) → cond t (len (length (bareForm w x))) (bad (faultOf w) none) ≡ len n → (t ≡ true) × (n ≡ length (bareForm w x))
+      by-test true e = (refl, cc)
+      by-test false e = no-len e
+
+  form-length : length (formOf w x) ≡ length (bareForm w x) + length x
+  unfolding formOf
+  form-length = length-append (bareForm w x) x
+
+  measured-by : (k : ℕ) → eqb (faultOf w) 0 ≡ true
+      → measured k w x ≡ cond (leb (length (formOf w x)) 65536) (formed k (length (formOf w x))) (withheld 47 none)
+  unfolding measured
+  measured-by k e = rw e
+
+  -- what is measured is the form's length
+  formed-by : {k j n : ℕ} → measured k w x ≡ formed j n → (bareLen w x ≡ len (length (bareForm w x))) × (n ≡ length (formOf w x)) × (j ≡ k)
+  unfolding measured bareLen
+  formed-by {k} {j} {n} = by-test (eqb (faultOf w) 0) (leb (length (formOf w x)) 65536)
+    where
+      by-test : (t u : Bool) → cond t (cond u (formed k (length (formOf w x))) (withheld 47 none)) (withheld (faultOf w) none) ≡ formed j n
+          → (cond t (len (length (bareForm w x))) (bad (faultOf w) none) ≡ len (length (bareForm w x))) × (n ≡ length (formOf w x)) × (j ≡ k)
+      by-test true true e = (refl, cc, cc)
+      by-test true false e = no-form e
+      by-test false u e = no-form e
+
+-- ---- the measure of a reading o
+
+module _ (s : List ℕ) where
+  pub measure-refused : (o : Outcome) {m : ℕ} {p : Place} → bareBy s o ≡ bad m p → measureOf s o ≡ withheld m p
+  measure-refused (refused n q) e = cc
+  measure-refused (accepted k start vs) e = bare-bad (worthOf k s vs) (drop start s) k e
+
+  -- its form is the form without suffix, and the suffix
+  pub form-split : (o : Outcome) {n : ℕ} → bareBy s o ≡ len n → formBy s o ≡ bareFormBy s o ++ drop (suffixIn o) s
+  unfolding formOf
+  form-split (refused n q) e = no-len e
+  form-split (accepted k start vs) e = refl
+
+  bare-count : (o : Outcome) {n : ℕ} → bareBy s o ≡ len n → n ≡ length (bareFormBy s o)
+  bare-count (refused n q) e = no-len e
+  bare-count (accepted k start vs) e = bare-len (worthOf k s vs) (drop start s) e .1
+
+  form-count : (o : Outcome) {n : ℕ} → bareBy s o ≡ len n → n + (length s - suffixIn o) ≡ length (formBy s o)
+  form-count o {n} e = rw (form-split o e, length-append, length-drop) (omega (arith, bare-count o e))
+
+  measure-by : (o : Outcome) {n : ℕ} → bareBy s o ≡ len n
+      → measureOf s o ≡ cond (leb (length (formBy s o)) 65536) (formed (kindIn o) (length (formBy s o))) (withheld 47 none)
+  measure-by (refused n q) e = no-len e
+  measure-by (accepted k start vs) e = let w = worthOf k s vs in measured-by w (drop start s) k (bare-len w (drop start s) e .0)
+
+  module _ (o : Outcome) {n : ℕ} (e : bareBy s o ≡ len n) where
+    pub measure-long : 65536 < n + (length s - suffixIn o) → measureOf s o ≡ withheld 47 none
+    measure-long h = measure-by o e ∙ rw (lt-leb (length (formBy s o)) 65536 (omega (arith, form-count o e)))
+
+    pub measure-formed : n + (length s - suffixIn o) ≤ 65536 → measureOf s o ≡ formed (kindIn o) (n + (length s - suffixIn o))
+    measure-formed h =
+        measure-by o e ∙ rw (le-leb (length (formBy s o)) 65536 (omega (arith, form-count o e))) (ap (formed (kindIn o)) (sym (form-count o e)))
+
+  -- what is measured can be written into a buffer that is as long
+  pub formed-fits : (o : Outcome) {k n have : ℕ} → measureOf s o ≡ formed k n → n ≤ have → Fits s o have × (n ≡ length (formBy s o))
+  formed-fits (refused m q) e h = no-form e
+  formed-fits (accepted k start vs) e h =
+      let f = formed-by (worthOf k s vs) (drop start s) e in
+      (record { form = f .0; room = omega (arith, f .1) }, f .1)
+
+  pub fits-both : (o : Outcome) {have : ℕ} → Fits s o have → length (bareFormBy s o) + length (drop (suffixIn o) s) ≤ have
+  fits-both o f = omega (arith, length-append (bareFormBy s o) (drop (suffixIn o) s), ap length (form-split o (f .form)), f .room)
+
+  pub roomy : (o : Outcome) {have : ℕ} → Fits s o have → Roomy s o have
+  roomy o f = record { form = f .form; room = omega (arith, fits-both o f) }
+
+-- where there is a form, the suffix starts inside the text, which is short
+pub form-inside : (s : List ℕ) (o : Outcome) {n : ℕ} → o ≡ readAt 0 s → bareBy s o ≡ len n → (suffixIn o ≤ length s) × (length s ≤ 65536)
+form-inside s (refused n q) is e = no-len e
+form-inside s (accepted k e vs) is f = (start s is, short s is)
+
+-- ---- the answers of settling, and the buffer at exit
+
+abbrev pub Answers : List ℕ → List ℕ → Settle → List ℕ → Type 0
+Answers s buf a after = (a ≡ settleAt s (length buf)) × (after ≡ bufferAt s buf)
+
+module _ (s buf : List ℕ) (o : Outcome) (is : o ≡ readAt 0 s) where
+  measure-at : {a : Settle} → a ≡ measureOf s o → measureAt s ≡ a
+  unfolding measureAt
+  measure-at e = rw (← is) (sym e)
+
+  -- the reading's refusal, 45, 46 and 47 come through
+  pub settle-refused : {m : ℕ} {p : Place} → withheld m p ≡ measureOf s o → Answers s buf (withheld m p) buf
+  unfolding settleAt bufferAt
+  settle-refused e = rw (measure-at e) (refl, refl)
+
+  -- a shorter buffer is 48, and keeps every byte
+  pub settle-small : {k n : ℕ} → formed k n ≡ measureOf s o → length buf < n → Answers s buf (withheld 48 none) buf
+  unfolding settleAt bufferAt
+  settle-small {k} {n} e h = rw (measure-at e, lt-leb n (length buf) h) (refl, refl)
+
+  -- else the form is written over its front
+  pub settle-written : {k n : ℕ} → formed k n ≡ measureOf s o → n ≤ length buf → Answers s buf (formed k n) (over (formBy s o) buf)
+  unfolding settleAt bufferAt formAt
+  settle-written {k} {n} e h = rw (measure-at e, le-leb n (length buf) h, ← is) (refl, refl)
+
+-- ---- kinds that always have a form
+
+pub plain-bare : (w : Worth) (x : List ℕ) → faultOf w ≡ 0 → len (length (bareForm w x)) ≡ bareLen w x
+unfolding bareLen
+plain-bare w x e = rw e
+
+pub char-length : (v : ℕ) (x : List ℕ) → Scalar v → 2 + length (styledForms true 39 (encode v)) ≡ length (bareForm (worth.char v) x)
+char-length v x sc = rw (char-style 39 v sc, length-append) (omega arith)
+
+pub byte-length : (b : ℕ) (x : List ℕ) → 3 + length (styledForm false 39 b) ≡ length (bareForm (worth.byte b) x)
+byte-length b x = rw (byte-style 39 b, length-append) (omega arith)
+
+-- ---- integers and floats, which may have none
+
+-- the number that is at most the largest
+pub same-number : (m : ℕ) {n : ℕ} → Number n ≡ within 18446744073709551615 m → n ≡ m
+same-number m {n} = by-test (leb m 18446744073709551615)
+  where
+    by-test : (t : Bool) → Number n ≡ cond t (Number m) Over → n ≡ m
+    by-test true e = cc
+    by-test false e = let z : _≡_ {A = ℕ} 0 1 = cc in absurd (omega arith)
+
+module _ (m : ℕ) (x : List ℕ) where
+  pub is-within : {n : ℕ} → Number n ≡ within 18446744073709551615 m → len (length (bareForm (worth.integer n) x)) ≡ bareLen (worth.integer m) x
+  unfolding bareLen
+  is-within {n} = by-test (leb m 18446744073709551615)
+    where
+      by-test : (t : Bool) → Number n ≡ cond t (Number m) Over
+          → len (length (integerForm n x)) ≡ cond (eqb (cond t 0 45) 0) (len (length (integerForm m x))) (bad (cond t 0 45) none)
+      by-test true e = let z : n ≡ m = cc in rw z
+      by-test false e = let z : _≡_ {A = ℕ} 0 1 = cc in absurd (omega arith)
+
+  -- or above it
+  pub is-over : Over ≡ within 18446744073709551615 m → bad 45 none ≡ bareLen (worth.integer m) x
+  unfolding bareLen
+  is-over = by-test (leb m 18446744073709551615)
+    where
+      by-test : (t : Bool) → Over ≡ cond t (Number m) Over
+          → bad 45 none ≡ cond (eqb (cond t 0 45) 0) (len (length (integerForm m x))) (bad (cond t 0 45) none)
+      by-test true e = let z : _≡_ {A = ℕ} 0 1 = cc in absurd (omega arith)
+      by-test false e = refl
+
+-- the length of a float's form, as scaling answers it
+abbrev pub bareIn : Length → BareForm
+bareIn (known n) = len n
+bareIn too-far = bad 46 none
+
+module _ (d : Decimal) (x : List ℕ) where
+  pub float-bare : bareIn (cond (near d) (known (length (reducedForm (reduce d)))) too-far) ≡ bareLen (worth.float d) x
+  unfolding bareLen
+  float-bare = by-test (near d)
+    where
+      by-test : (t : Bool) → bareIn (cond t (known (length (reducedForm (reduce d)))) too-far)
+          ≡ cond (eqb (cond t 0 46) 0) (len (length (reducedForm (reduce d)))) (bad (cond t 0 46) none)
+      by-test true = refl
+      by-test false = refl
+
+  -- where there is a form, the power is near
+  pub float-near : {n : ℕ} → bareLen (worth.float d) x ≡ len n → near d ≡ true
+  unfolding bareLen
+  float-near {n} = by-test (near d)
+    where
+      by-test : (t : Bool) → cond (eqb (cond t 0 46) 0) (len (length (reducedForm (reduce d)))) (bad (cond t 0 46) none) ≡ len n → t ≡ true
+      by-test true e = refl
+      by-test false e = no-len e

@@ -1,0 +1,79 @@
+-- `settle::measure_of` meets its contract.
+-- Assumes nothing.
+use borrow.Author.Needs.{needs}
+use mathlib.Core.Path.{_≡_, sym, ap, _∙_}
+use Prim.Native.Nat.{_≤_}
+use native.Mathlib.Omega.{arith}
+use lib.ListN.{length}
+use Rattle.err.specs.Reading.{outcomeOf}
+use Rattle.settle.specs.Settled.{len, bareOf, bareBy, suffixIn}
+use Rattle.settle.proofs.Forms.{form-inside, measure-refused, measure-long, measure-formed}
+use Rattle.settle.proofs.measure_of.Statement.{statement}
+use Rattle.settle.proofs.measure_of.Tie as tie
+
+bare-len-requires : tie.Need-bare-len-requires
+bare-len-requires c κs = search needs
+
+enum-known-bare : tie.Need-enum-known-bare
+enum-known-bare c = search needs
+
+enum-known-bare-2 : tie.Need-enum-known-bare-2
+enum-known-bare-2 c = search needs
+
+suffix-start-requires : tie.Need-suffix-start-requires
+suffix-start-requires c κs = search needs
+
+-- a form is there
+is : (c : tie.After-suffix-start) → let a = c .before .before .before .before .before .before .args in
+    bareBy (a .text .now) (outcomeOf (a .found)) ≡ len (c .before .before .bare2 .given .0 .0)
+is c = sym (c .before .before .before .before .bare-len .ensures) ∙ ap bareOf (c .before .before .bare2 .given .1)
+
+inside : (c : tie.After-suffix-start) → let a = c .before .before .before .before .before .before .args in
+    (suffixIn (outcomeOf (a .found)) ≤ length (a .text .now)) × (length (a .text .now) ≤ 65536)
+inside c = form-inside _ _ (c .before .before .before .before .before .before .pre) (is c)
+
+sub-rest : tie.Need-sub-rest
+sub-rest c = omega (arith, inside c .0, c .suffix-start .ensures)
+
+sub-if1 : tie.Need-sub-if1
+sub-if1 c = omega (arith, inside c .1)
+
+returns : tie.Need-returns
+returns c =
+    let b = c .before in
+    let a = b .before .before .before .before .before .before .args in
+    sym (measure-long (a .text .now) (outcomeOf (a .found)) (is b) (omega (arith, c .if1 .taken, b .suffix-start .ensures, inside b .1)))
+
+kind-of-requires : tie.Need-kind-of-requires
+kind-of-requires c κs = search needs
+
+add-t10 : tie.Need-add-t10
+add-t10 c = search needs
+
+returns-2 : tie.Need-returns-2
+returns-2 c =
+    let a = c .before .before .before .before .before .args in
+    sym (measure-refused (a .text .now) (outcomeOf (a .found)) (sym (c .before .before .before .bare-len .ensures) ∙ ap bareOf (c .before .bare .given .1)))
+
+returns-3 : tie.Need-returns-3
+returns-3 c =
+    let b = c .before .before in
+    let a = b .before .before .before .before .before .before .args in
+    rw (c .kind-of .ensures, b .suffix-start .ensures)
+    (sym (measure-formed (a .text .now) (outcomeOf (a .found)) (is b) (omega (arith, c .before .if1 .left, b .suffix-start .ensures, inside b .1))))
+
+pub measure-of-spec : {M : Type 1} → statement M
+measure-of-spec =
+    tie.close
+    (tie.spec
+    bare-len-requires
+    enum-known-bare
+    enum-known-bare-2
+    suffix-start-requires
+    sub-rest
+    sub-if1
+    returns
+    kind-of-requires
+    add-t10
+    returns-2
+    returns-3)

@@ -1,0 +1,112 @@
+-- What measuring and settling answer, and what the lent buffer holds then (01, The settled form; Order: "then 45 or 46, 47, 48").
+-- Assumes nothing.
+use mathlib.Core.Bool.{cond}
+use mathlib.Core.List.{List, []}
+use mathlib.Core.Path.{_≡_}
+use Prim.Native.Nat.{ℕ, _≤_}
+use lib.Dec.{eqb, leb}
+use lib.ListN.{length, drop}
+use Rattle.err.specs.Outcome.{Place, none, Outcome, refused, accepted}
+use Rattle.err.specs.Numbers.{numberOf}
+use Rattle.err.specs.Reading.{placeOf}
+use Rattle.buffer.specs.Buffer.{over}
+use Rattle.grammar.specs.Meaning.{Worth}
+use Rattle.form.specs.Form.{bareForm, formOf, faultOf}
+use Rattle.literal.specs.Readings.{readAt}
+use Rattle.settle.specs.Worths.{worthOf}
+use Rattle.settle.specs.declared.Bare.{Bare}
+use Rattle.settle.specs.declared.Bare.the-variants as bare
+use Rattle.settle.specs.declared.Settled.{Settled}
+use Rattle.settle.specs.declared.Settled.the-variants as settled
+
+-- a form's kind and length; or a refusal's number and span
+pub data Settle : Type 0 where
+  formed : ℕ → ℕ → Settle
+  withheld : ℕ → Place → Settle
+
+abbrev pub settledOf : Settled → Settle
+settledOf (settled.Formed k n) = formed k n
+settledOf (settled.Refused k p) = withheld (numberOf k) (placeOf p)
+
+-- ---- the measure
+
+-- of kind, worth and suffix: 45 or 46, then 47
+unfoldable pub measured : ℕ → Worth → List ℕ → Settle
+measured k w x =
+    cond (eqb (faultOf w) 0)
+    (cond (leb (length (formOf w x)) 65536) (formed k (length (formOf w x))) (withheld 47 none))
+    (withheld (faultOf w) none)
+
+-- a reading's own refusal comes first
+abbrev pub measureOf : List ℕ → Outcome → Settle
+measureOf s (refused n p) = withheld n p
+measureOf s (accepted k e vs) = measured k (worthOf k s vs) (drop e s)
+
+-- of any text, read by entry 0
+unfoldable pub measureAt : List ℕ → Settle
+measureAt s = measureOf s (readAt 0 s)
+
+-- ---- the form
+
+-- a buffer of `have` bytes that is shorter than the form is 48
+abbrev pub fitted : ℕ → Settle → Settle
+fitted have (withheld n p) = withheld n p
+fitted have (formed k n) = cond (leb n have) (formed k n) (withheld 48 none)
+
+unfoldable pub settleAt : List ℕ → ℕ → Settle
+settleAt s have = fitted have (measureAt s)
+
+-- the settled form of an accepted text
+abbrev pub formBy : List ℕ → Outcome → List ℕ
+formBy s (refused n p) = []
+formBy s (accepted k e vs) = formOf (worthOf k s vs) (drop e s)
+
+unfoldable pub formAt : List ℕ → List ℕ
+formAt s = formBy s (readAt 0 s)
+
+-- the whole buffer at exit: the form, and behind it what it held; refused: exactly as it came
+abbrev pub bufferBy : Settle → List ℕ → List ℕ → List ℕ
+bufferBy (formed k n) form buf = over form buf
+bufferBy (withheld n p) form buf = buf
+
+unfoldable pub bufferAt : List ℕ → List ℕ → List ℕ
+bufferAt s buf = bufferBy (settleAt s (length buf)) (formAt s) buf
+
+-- ---- a form without its suffix
+
+pub data BareForm : Type 0 where
+  len : ℕ → BareForm
+  bad : ℕ → Place → BareForm
+
+abbrev pub bareOf : Bare → BareForm
+bareOf (bare.Len n) = len n
+bareOf (bare.Refused k p) = bad (numberOf k) (placeOf p)
+
+unfoldable pub bareLen : Worth → List ℕ → BareForm
+bareLen w x = cond (eqb (faultOf w) 0) (len (length (bareForm w x))) (bad (faultOf w) none)
+
+abbrev pub bareBy : List ℕ → Outcome → BareForm
+bareBy s (refused n p) = bad n p
+bareBy s (accepted k e vs) = bareLen (worthOf k s vs) (drop e s)
+
+abbrev pub bareFormBy : List ℕ → Outcome → List ℕ
+bareFormBy s (refused n p) = []
+bareFormBy s (accepted k e vs) = bareForm (worthOf k s vs) (drop e s)
+
+-- kind and start of suffix of an accepted reading
+abbrev pub kindIn : Outcome → ℕ
+kindIn (refused n p) = 0
+kindIn (accepted k e vs) = k
+
+abbrev pub suffixIn : Outcome → ℕ
+suffixIn (refused n p) = 0
+suffixIn (accepted k e vs) = e
+
+-- a form is there, and a buffer of `have` bytes has room for it: for the part before the suffix, and for the whole
+pub record Roomy (s : List ℕ) (o : Outcome) (have : ℕ) : Type 0 where
+  pub form : bareBy s o ≡ len (length (bareFormBy s o))
+  pub room : length (bareFormBy s o) ≤ have
+
+pub record Fits (s : List ℕ) (o : Outcome) (have : ℕ) : Type 0 where
+  pub form : bareBy s o ≡ len (length (bareFormBy s o))
+  pub room : length (formBy s o) ≤ have
