@@ -120,14 +120,15 @@ int main(int argc, char **argv)
     int refused = answer >= KEYBASKET_REFUSED;
     if (refused) {
         size_t number = answer - KEYBASKET_REFUSED;
-        printf("refused: %s (%zu)\n", names[number], number);
+        int known = number >= 1 && number < sizeof names / sizeof names[0];
+        printf("refused: %s (%zu)\n", known ? names[number] : "?", number);
     } else {
         fwrite(out, 1, answer, stdout);
         putchar('\n');
     }
     free(out);
     free(text);
-    if (fflush(stdout) != 0)
+    if (ferror(stdout) || fflush(stdout) != 0)
         fail("standard output cannot be written");
     return refused;
 }

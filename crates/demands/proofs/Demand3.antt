@@ -113,14 +113,19 @@ module _ (s x : List ℕ) (k have : ℕ) (w : Worth) (a : Accepts s k) (m : Mean
       go e l h (inr (inr (inl t))) = omega arith
       go e l h (inr (inr (inr t))) = omega arith
 
-pub demand-3 : Demand3
-demand-3 =
-    record { same = sames; again = agains; only = λ s x k have w a m. (withheld-reason s x k have w a m, reason-withheld s x k have w a m) }
-
--- ---- the order of the reasons
-
 not-withheld : (s buf x : List ℕ) (k : ℕ) (w : Worth) → Accepts s k → Means s w x → (Withheld s (length buf) → ⊥) → Given s buf k (formOf w x)
 not-withheld s buf x k w a m n = by-answer s x k (length buf) w a m (λ h. absurd (n h)) (given-form a m buf)
+
+pub demand-3 : Demand3
+demand-3 =
+    record {
+      same = sames;
+      again = agains;
+      given = not-withheld;
+      only = λ s x k have w a m. (withheld-reason s x k have w a m, reason-withheld s x k have w a m);
+    }
+
+-- ---- the order of the reasons
 
 measure-withheld : (s : List ℕ) (n : ℕ) (p : Place) → measureAt s ≡ withheld n p → (have : ℕ) → settleAt s have ≡ withheld n p
 unfolding settleAt
@@ -133,7 +138,6 @@ in-order =
       too-far = λ s x k have w a m t. settle-far a m have t;
       too-long = λ s x k have w a m l f t. settle-long a m have (no-fault w l f) t;
       too-small = λ s x k have w a m l f t h. settle-small a m have (no-fault w l f) (omega arith) h;
-      given = not-withheld;
       measure = λ s buf f k g. given-measure s (g .answer) .0;
       no-measure = measure-withheld;
     }

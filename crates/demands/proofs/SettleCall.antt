@@ -17,8 +17,9 @@ use Rattle.form.specs.Reduced.{reduce}
 use Rattle.literal.specs.Readings.{readAt}
 use Rattle.settle.specs.Worths.{worthOf}
 use Rattle.settle.specs.Settled.{Settle, formed, withheld, measured, measureOf, measureAt, fitted, settleAt, formBy, formAt, bufferBy, bufferAt}
-use Rattle.desk.specs.Code.{codeOf}
-use Rattle.demands.specs.Demand1.{Answered, SettleAnswered, SettleAnswers}
+use Rattle.integer.specs.Value.{Valued}
+use Rattle.desk.specs.Code.{readingNumbers, valueCode, valueAfter, decodeCode, codeOf}
+use Rattle.demands.specs.Demand1.{Answered, SettleAnswered, SettleAnswers, NumberAnswers}
 use Rattle.demands.proofs.ReadCall.{read-answers}
 
 -- ---- the measure
@@ -103,6 +104,19 @@ settle-answers =
       untouched = untouched;
       filled = filled;
       measured = measured-by;
-      length-code = λ have s h. ap codeOf h;
-      refusal-code = λ have s h. ap codeOf h;
+    }
+
+-- ---- the entries for C
+
+pub number-answers : NumberAnswers
+number-answers =
+    record {
+      reading = λ code s h. ap readingNumbers h;
+      no-reading = λ code s h. ap readingNumbers h;
+      value = λ code s h. (ap valueCode h, λ before. ap (λ (v : Valued). valueAfter v before) h);
+      no-value = λ code s h. (ap valueCode h, λ before. ap (λ (v : Valued). valueAfter v before) h);
+      bytes = λ code have s h. ap decodeCode h;
+      no-bytes = λ code have s h. ap decodeCode h;
+      form = λ have s h. ap codeOf h;
+      no-form = λ have s h. ap codeOf h;
     }

@@ -9,13 +9,17 @@
 --   literal::float_from_suffix    r ≡ floatFromSuffix name
 --   settle::measure               settledOf r ≡ measureAt text
 --   settle::settle                settledOf r ≡ settleAt text (length of out at entry), and out at exit ≡ settle's bufferAt text (out at entry)
---   desk::keybasket_settle        r ≡ codeOf (settleAt text (length of out at entry)), and out at exit likewise: the entry for C
+-- and the entries for C, with out at exit as above:
+--   desk::keybasket_read          answer at exit ≡ readingNumbers (readAt entry text)
+--   desk::keybasket_value         r ≡ valueCode (valueAt ty text), and value at exit ≡ valueAfter (valueAt ty text) (value at entry)
+--   desk::keybasket_decode        r ≡ decodeCode (decodeAt entry text (length of out at entry))
+--   desk::keybasket_settle        r ≡ codeOf (settleAt text (length of out at entry))
 -- "comes to an end": a contract is proved only of code that ends. "with the text untouched": the text is a shared slice, and the last clause of
 -- each contract says that at exit it is what it was at entry. The rest is said below, of the definitions that the contracts cite.
 -- Assumes nothing.
 use Prim.Native.Nat.{ℕ, _+_, _^_, _≤_, _<_}
 use mathlib.Core.Path.{_≡_}
-use mathlib.Core.List.{List}
+use mathlib.Core.List.{List, _∷_}
 use lib.ListN.{length}
 use Rattle.err.specs.Outcome.{Place, Ends, none, Values, Outcome, refused, accepted}
 use Rattle.buffer.specs.Buffer.{over}
@@ -38,7 +42,7 @@ use Rattle.literal.specs.Decodes.{decodeAt, bufferAt}
 use Rattle.literal.specs.Suffixes.{integerFromSuffix, floatFromSuffix}
 use Rattle.settle.specs.Settled.{Settle, formed, measureAt, settleAt, formAt}
 use Rattle.settle.specs.Settled as settled
-use Rattle.desk.specs.Code.{codeOf}
+use Rattle.desk.specs.Code.{readingNumbers, valueNumbers, placeNumbers, valueCode, valueAfter, decodeCode, codeOf}
 
 -- a text that may be read: at most 65,536 bytes, and UTF-8
 pub record Readable (s : List ℕ) : Type 0 where
@@ -160,9 +164,22 @@ pub record SettleAnswers : Type 0 where
   pub filled : (s buf : List ℕ) {k n : ℕ} → settleAt s (length buf) ≡ formed k n → (settled.bufferAt s buf ≡ over (formAt s) buf) × (n ≡ length (formAt s))
   -- the measure of a form is its settling into a buffer that is long enough for every form
   pub measured : (s : List ℕ) → measureAt s ≡ settleAt s 65536
-  -- the entry for C tells both apart: a length is at most 65,536, a refusal above 100,000
-  pub length-code : (have : ℕ) (s : List ℕ) {k n : ℕ} → settleAt s have ≡ formed k n → codeOf (settleAt s have) ≡ n
-  pub refusal-code : (have : ℕ) (s : List ℕ) {n : ℕ} {p : Place} → settleAt s have ≡ settled.withheld n p → codeOf (settleAt s have) ≡ 100000 + n
+
+-- the entries for C say the same in numbers. A reading's first number is its kind, or 0 where it is refused; a length is at most 65,536, a
+-- refusal above 100,000; a value that is refused is left as it was
+pub record NumberAnswers : Type 0 where
+  pub reading : (code : ℕ) (s : List ℕ) {k e : ℕ} {vs : Values} → readAt code s ≡ accepted k e vs
+      → readingNumbers (readAt code s) ≡ k ∷ e ∷ valueNumbers vs
+  pub no-reading : (code : ℕ) (s : List ℕ) {n : ℕ} {p : Place} → readAt code s ≡ refused n p → readingNumbers (readAt code s) ≡ 0 ∷ n ∷ placeNumbers p
+  pub value : (code : ℕ) (s : List ℕ) {v : ℕ} → valueAt code s ≡ given v
+      → (valueCode (valueAt code s) ≡ 0) × ((before : ℕ) → valueAfter (valueAt code s) before ≡ v)
+  pub no-value : (code : ℕ) (s : List ℕ) {n : ℕ} {p : Place} → valueAt code s ≡ valued.withheld n p
+      → (valueCode (valueAt code s) ≡ 100000 + n) × ((before : ℕ) → valueAfter (valueAt code s) before ≡ before)
+  pub bytes : (code have : ℕ) (s : List ℕ) {n : ℕ} → decodeAt code s have ≡ written n → decodeCode (decodeAt code s have) ≡ n
+  pub no-bytes : (code have : ℕ) (s : List ℕ) {n : ℕ} {p : Place} → decodeAt code s have ≡ withheld n p
+      → decodeCode (decodeAt code s have) ≡ 100000 + n
+  pub form : (have : ℕ) (s : List ℕ) {k n : ℕ} → settleAt s have ≡ formed k n → codeOf (settleAt s have) ≡ n
+  pub no-form : (have : ℕ) (s : List ℕ) {n : ℕ} {p : Place} → settleAt s have ≡ settled.withheld n p → codeOf (settleAt s have) ≡ 100000 + n
 
 pub record Demand1 : Type 0 where
   pub read : ReadAnswers
@@ -170,3 +187,4 @@ pub record Demand1 : Type 0 where
   pub decode : DecodeAnswers
   pub suffixes : SuffixAnswers
   pub settle : SettleAnswers
+  pub numbers : NumberAnswers

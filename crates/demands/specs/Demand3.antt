@@ -62,11 +62,13 @@ pub record Demand3 : Type 0 where
   -- the second sentence
   pub again : (s buf f x : List ℕ) (k : ℕ) (w : Worth) → Given s buf k f → Means s w x
       → Accepts f k × ((w′ : Worth) × Means f w′ x × SameWorth w w′)
+  -- "as 01 defines them": where no form is withheld, the one that is given is `formOf`
+  pub given : (s buf x : List ℕ) (k : ℕ) (w : Worth) → Accepts s k → Means s w x → (Withheld s (length buf) → ⊥) → Given s buf k (formOf w x)
   -- the third sentence
   pub only : (s x : List ℕ) (k have : ℕ) (w : Worth) → Accepts s k → Means s w x
       → Withheld s have ↔ (TooLarge w ⊎ (PowerTooFar w ⊎ (TooLong w x ⊎ TooSmall w x have)))
 
--- which number withholds a form, in the order of 01: "then 45 or 46, 47, 48"; and that a form is given where none does
+-- which number withholds a form, in the order of 01: "then 45 or 46, 47, 48"
 pub record InOrder : Type 0 where
   pub too-large : (s x : List ℕ) (k have : ℕ) (w : Worth) → Accepts s k → Means s w x → TooLarge w → settleAt s have ≡ withheld 45 none
   pub too-far : (s x : List ℕ) (k have : ℕ) (w : Worth) → Accepts s k → Means s w x → PowerTooFar w → settleAt s have ≡ withheld 46 none
@@ -74,7 +76,6 @@ pub record InOrder : Type 0 where
       → settleAt s have ≡ withheld 47 none
   pub too-small : (s x : List ℕ) (k have : ℕ) (w : Worth) → Accepts s k → Means s w x → (TooLarge w → ⊥) → (PowerTooFar w → ⊥) → (TooLong w x → ⊥)
       → TooSmall w x have → settleAt s have ≡ withheld 48 none
-  pub given : (s buf x : List ℕ) (k : ℕ) (w : Worth) → Accepts s k → Means s w x → (Withheld s (length buf) → ⊥) → Given s buf k (formOf w x)
   -- the measure says the same without a buffer: the form's kind and length, or 45, 46 or 47
   pub measure : (s buf f : List ℕ) (k : ℕ) → Given s buf k f → measureAt s ≡ formed k (length f)
   pub no-measure : (s : List ℕ) (n : ℕ) (p : Place) → measureAt s ≡ withheld n p → (have : ℕ) → settleAt s have ≡ withheld n p

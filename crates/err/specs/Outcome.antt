@@ -13,7 +13,7 @@ abbrev pub shift : ℕ → Place → Place
 shift by none = none
 shift by (between a e) = between (a + by) (e + by)
 
--- a span starts before it ends, and ends at most at m
+-- a span ends at most at m, and not before it starts
 abbrev pub Ends : ℕ → Place → Type 0
 Ends m none = Unit {0}
 Ends m (between a e) = (a ≤ e) × (e ≤ m)

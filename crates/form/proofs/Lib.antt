@@ -11,3 +11,4 @@ pub mod Again
 pub mod Same
 pub mod Fits
 pub mod NoLineFeed
+pub mod Examples

@@ -7,7 +7,7 @@ use Prim.Native.Nat.{ℕ}
 use lib.Dec.{ltb, leb}
 use Rattle.form.specs.Escapes.{asciiForm, xForm}
 
--- a byte above 127: itself in string literals, an escape in the others
+-- a byte above 127: itself in kinds 4 and 5, an escape in the others
 abbrev pub highForm : Bool → ℕ → List ℕ
 highForm wide b = cond wide (b ∷ []) (xForm b)
 
@@ -20,6 +20,6 @@ abbrev pub styledForms : Bool → ℕ → List ℕ → List ℕ
 styledForms wide q [] = []
 styledForms wide q (b ∷ v) = styledForm wide q b ++ styledForms wide q v
 
--- ASCII that no escape stands for: space to `~`
+-- ASCII that stands as itself where no letter escapes it: space to `~`
 unfoldable pub printable : ℕ → Bool
 printable b = leb 32 b && ltb b 127

@@ -1,4 +1,4 @@
-// The value of a quoted literal as its settled form writes it: measured, and written behind what a lent buffer already holds.
+// The value of a quoted literal as its settled form writes it: measured, and written to the front of what is lent.
 use body::Step;
 use escape::Allowed;
 use escape::Unescaped;
@@ -166,7 +166,7 @@ pub fn put_char(out: &mut [u8], c: u32, style: Style) -> usize
     put_encoded(out, c, style)
 }
 
-// What an escape or a byte of a body stands for.
+// How long the form of what an escape or a byte of a body stands for is.
 fn value_len(u: Unescaped, style: Style) -> usize
     ensures { λ r. ⌜ (r ≡ length (styledForms (style .wide) (style .quote) (bytesOf u))) × (r ≤ 16) ⌝ }
 {

@@ -271,7 +271,7 @@ pub fn float_len(text: &[u8], lit: FloatLit) -> FormLen
     }
 }
 
-// The form of a float without its suffix, where its power is near.
+// The form of a float without its suffix, where its power is near; so `TooFar` cannot arise.
 pub fn put_float(out: &mut [u8], text: &[u8], lit: FloatLit) -> usize
     requires { ⌜ ((length (now text) ≤ 65536) × (floatRead (now text) ≡ accepted 3 (lit .«end_number_part») (ends (lit .«end_integer_part») (lit .«end_fractional_part») (lit .«end_number_part»)))) × ((near (numberOf (now text) lit) ≡ true) × (length (reducedForm (reduce (numberOf (now text) lit))) ≤ length (now out))) ⌝ }
     ensures { λ n. ⌜ Wrote (reducedForm (reduce (numberOf (now (text .entry)) lit))) n (now (out .entry)) (now (out .exit)) ⌝ }

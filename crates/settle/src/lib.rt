@@ -85,6 +85,7 @@ fn put_integer(out: &mut [u8], text: &[u8], lit: IntegerLit) -> usize
     ensures { λ r. ⌜ Wrote (bareFormBy (now (text .entry)) (outcomeOf (reading.Integer lit))) r (now (out .entry)) (now (out .exit)) ⌝ }
 {
     let found = number_of(text, lit);
+    // cannot arise: the number was measured
     let Within::Number(n) = found else {
         return 0;
     };
@@ -139,7 +140,7 @@ fn bare_len(text: &[u8], found: Reading) -> Bare
     }
 }
 
-// The form of a reading without its suffix, where there is one.
+// The form of a reading without its suffix. A refused reading cannot arise: it has no form.
 fn put_bare(out: &mut [u8], text: &[u8], found: Reading) -> usize
     requires { ⌜ (outcomeOf found ≡ readAt 0 (now text)) × Roomy (now text) (outcomeOf found) (length (now out)) ⌝ }
     ensures { λ r. ⌜ Wrote (bareFormBy (now (text .entry)) (outcomeOf found)) r (now (out .entry)) (now (out .exit)) ⌝ }

@@ -1,0 +1,270 @@
+//! Keybasket for Rust: the reading of a Rust literal, an integer's value, a string's decoded bytes, and the settled form.
+//!
+//! Every text has an answer, of any bytes and any length: no call panics, allocates, or keeps anything for the next one. What a call
+//! answers is what docs/01-scope.md says, and that is proved of the calls behind this crate; the crate itself only puts their numbers
+//! into types. It links libdesk.a, for x86-64 Linux; build.rs says how the archive is found.
+//!
+//! ```
+//! use keybasket::{decode, read, settle, value, Entry, IntegerType, Literal, Quoted};
+//!
+//! let found = read(Entry::Any, b"0x_1Fu8")?;
+//! assert_eq!(found.literal, Literal::Integer { base: 16, digits: 2..5 });
+//! assert_eq!(found.start_suffix, 5);
+//! assert_eq!(value(IntegerType::U8, b"0x_1F")?, 31);
+//!
+//! let mut out = [0; 16];
+//! assert_eq!(decode(Quoted::String, br#""a\n""#, &mut out)?, b"a\n");
+//! assert_eq!(settle(b"1.50e1", &mut out)?, b"15e0");
+//!
+//! let refusal = read(Entry::Any, b"'''").unwrap_err();
+//! assert_eq!((refusal.number, refusal.span), (26, Some(1..2)));
+//! # Ok::<(), keybasket::Refusal>(())
+//! ```
+#![deny(missing_docs, clippy::undocumented_unsafe_blocks)]
+
+use std::error::Error;
+use std::fmt;
+use std::ops::Range;
+
+#[cfg(not(all(
+    target_arch = "x86_64",
+    target_os = "linux",
+    target_pointer_width = "64"
+)))]
+compile_error!("keybasket: libdesk.a is for x86-64 Linux");
+
+/// No text is read that is longer, and no form or decoded value is longer: a buffer of this many bytes has room for each.
+pub const LONGEST: usize = 65536;
+
+/// A call's answer from here on is this plus a refusal number.
+const REFUSED: usize = 100000;
+
+// The same as in include/keybasket.h.
+extern "C" {
+    fn keybasket_read(entry: u64, text: *const u8, text_len: usize, answer: *mut u64);
+    fn keybasket_value(ty: u64, text: *const u8, text_len: usize, value: *mut u64) -> usize;
+    fn keybasket_decode(
+        entry: u64,
+        text: *const u8,
+        text_len: usize,
+        out: *mut u8,
+        out_len: usize,
+    ) -> usize;
+    fn keybasket_settle(text: *const u8, text_len: usize, out: *mut u8, out_len: usize) -> usize;
+}
+
+/// What a text is read as: any literal, or one of a kind.
+#[derive(Clone, Copy, Debug, PartialEq, Eq, Hash)]
+#[allow(missing_docs)]
+pub enum Entry {
+    Any = 0,
+    Bool = 1,
+    Integer = 2,
+    Float = 3,
+    Char = 4,
+    String = 5,
+    Byte = 6,
+    ByteString = 7,
+    CString = 8,
+}
+
+/// A type whose largest value an integer may have.
+#[derive(Clone, Copy, Debug, PartialEq, Eq, Hash)]
+#[allow(missing_docs)]
+pub enum IntegerType {
+    U8 = 1,
+    U16 = 2,
+    U32 = 3,
+    U64 = 4,
+    I8 = 7,
+    I16 = 8,
+    I32 = 9,
+    I64 = 10,
+}
+
+/// A kind of literal that has decoded bytes.
+#[derive(Clone, Copy, Debug, PartialEq, Eq, Hash)]
+#[allow(missing_docs)]
+pub enum Quoted {
+    String,
+    ByteString,
+    CString,
+}
+
+impl Quoted {
+    fn entry(self) -> Entry {
+        match self {
+            Quoted::String => Entry::String,
+            Quoted::ByteString => Entry::ByteString,
+            Quoted::CString => Entry::CString,
+        }
+    }
+}
+
+/// Why and where a text is refused.
+#[derive(Clone, Debug, PartialEq, Eq, Hash)]
+pub struct Refusal {
+    /// The number of docs/01-scope.md's table, 1 to 48; the names are in include/keybasket.h.
+    pub number: u64,
+    /// The bytes of the text that are at fault, where the table has a span.
+    pub span: Option<Range<usize>>,
+}
+
+impl fmt::Display for Refusal {
+    fn fmt(&self, f: &mut fmt::Formatter<'_>) -> fmt::Result {
+        match &self.span {
+            Some(span) => write!(f, "refused: {} at {}-{}", self.number, span.start, span.end),
+            None => write!(f, "refused: {}", self.number),
+        }
+    }
+}
+
+impl Error for Refusal {}
+
+/// What a text was read as. All offsets are in bytes.
+#[derive(Clone, Debug, PartialEq, Eq, Hash)]
+pub struct Reading {
+    /// The literal's kind and values.
+    pub literal: Literal,
+    /// Where the suffix starts, which ends with the text.
+    pub start_suffix: usize,
+}
+
+/// A literal's kind and values.
+#[derive(Clone, Debug, PartialEq, Eq, Hash)]
+pub enum Literal {
+    /// `true` or `false`.
+    Bool(bool),
+    /// An integer.
+    Integer {
+        /// 2, 8, 10 or 16.
+        base: u64,
+        /// Where its digits stand, without the base's prefix; there may be `_` among them.
+        digits: Range<usize>,
+    },
+    /// A float. A part that is missing ends where the part in front of it ends.
+    Float {
+        /// Where the integer part ends.
+        end_integer_part: usize,
+        /// Where the fractional part ends.
+        end_fractional_part: usize,
+        /// Where the exponent ends.
+        end_number_part: usize,
+    },
+    /// A char.
+    Char(char),
+    /// A string.
+    String(Body),
+    /// A byte.
+    Byte(u8),
+    /// A byte string.
+    ByteString(Body),
+    /// A C string.
+    CString(Body),
+}
+
+/// A quoted literal's hashes and length.
+#[derive(Clone, Copy, Debug, PartialEq, Eq, Hash)]
+pub struct Body {
+    /// How many hashes it has, where it is raw.
+    pub hashes: Option<u8>,
+    /// How many bytes its decoded value has; a C string's has no closing zero byte.
+    pub value_len: usize,
+}
+
+/// Reads a text as any literal or as one of a kind.
+pub fn read(entry: Entry, text: &[u8]) -> Result<Reading, Refusal> {
+    let mut answer = [0; 5];
+    // SAFETY: the text's pointer and length are those of a slice, which is readable, and not null even where it is empty; answer is a
+    // local of five numbers, which nothing else refers to.
+    unsafe { keybasket_read(entry as u64, text.as_ptr(), text.len(), answer.as_mut_ptr()) };
+    let [kind, second, a, b, c] = answer;
+    let body = || Body {
+        hashes: (a == 1).then_some(b as u8),
+        value_len: c as usize,
+    };
+    let literal = match kind {
+        0 => {
+            return Err(Refusal {
+                number: second,
+                span: (a == 1).then_some(b as usize..c as usize),
+            })
+        }
+        1 => Literal::Bool(a == 1),
+        2 => Literal::Integer {
+            base: a,
+            digits: b as usize..c as usize,
+        },
+        3 => Literal::Float {
+            end_integer_part: a as usize,
+            end_fractional_part: b as usize,
+            end_number_part: c as usize,
+        },
+        4 => Literal::Char(char::from_u32(a as u32).expect("a char's value is a scalar value")),
+        5 => Literal::String(body()),
+        6 => Literal::Byte(a as u8),
+        7 => Literal::ByteString(body()),
+        8 => Literal::CString(body()),
+        _ => unreachable!("there is no kind {kind}"),
+    };
+    Ok(Reading {
+        literal,
+        start_suffix: second as usize,
+    })
+}
+
+/// The number of an integer, where it is at most the type's largest. The text's suffix is read, but names no type here.
+pub fn value(ty: IntegerType, text: &[u8]) -> Result<u64, Refusal> {
+    let mut number = 0;
+    // SAFETY: the text's pointer and length are those of a slice, as in `read`; number is a local that nothing else refers to.
+    let answer = unsafe { keybasket_value(ty as u64, text.as_ptr(), text.len(), &mut number) };
+    if answer >= REFUSED {
+        return Err(refusal(answer, Entry::Integer, text));
+    }
+    Ok(number)
+}
+
+/// Writes the decoded bytes of a string, a byte string or a C string to the front of `out`, and hands them out. The bytes behind them keep
+/// what they held; where the text is refused, all of them do.
+pub fn decode<'a>(kind: Quoted, text: &[u8], out: &'a mut [u8]) -> Result<&'a [u8], Refusal> {
+    let entry = kind.entry();
+    // SAFETY: both pointers and lengths are those of slices, as in `read`; out is lent to this call alone, so that it does not overlap
+    // text, and a slice's bytes all have values.
+    let answer = unsafe {
+        keybasket_decode(
+            entry as u64,
+            text.as_ptr(),
+            text.len(),
+            out.as_mut_ptr(),
+            out.len(),
+        )
+    };
+    if answer >= REFUSED {
+        return Err(refusal(answer, entry, text));
+    }
+    Ok(&out[..answer])
+}
+
+/// Writes the settled form of any literal to the front of `out`, and hands it out. The bytes behind it keep what they held; where the text is
+/// refused, all of them do.
+///
+/// Two texts are the same in kind, exact value and suffix exactly when both have forms and the forms are equal.
+pub fn settle<'a>(text: &[u8], out: &'a mut [u8]) -> Result<&'a [u8], Refusal> {
+    // SAFETY: both pointers and lengths are those of slices, as in `decode`, and out is lent to this call alone.
+    let answer =
+        unsafe { keybasket_settle(text.as_ptr(), text.len(), out.as_mut_ptr(), out.len()) };
+    if answer >= REFUSED {
+        return Err(refusal(answer, Entry::Any, text));
+    }
+    Ok(&out[..answer])
+}
+
+/// The refusal that an answer stands for. Only reading answers a span, so the text is read once more for it, by the entry that the call
+/// reads by; a reading that is accepted leaves 45 to 48, which have none.
+fn refusal(answer: usize, entry: Entry, text: &[u8]) -> Refusal {
+    let span = read(entry, text).err().and_then(|refusal| refusal.span);
+    Refusal {
+        number: (answer - REFUSED) as u64,
+        span,
+    }
+}

@@ -1,0 +1,95 @@
+/*
+ * The calls beside settling, each answer on a line of its own.
+ *
+ *     calls {read ENTRY TEXT | value TYPE TEXT | decode ENTRY TEXT ROOM}
+ *
+ * read prints the reading's five numbers. value prints the answer, and what *value holds then, which was 7. decode prints the answer,
+ * and in hexadecimal what a buffer of ROOM bytes holds then, each of which was a5. Anything else is said on standard error, with exit
+ * status 2.
+ */
+#include <stdio.h>
+#include <stdlib.h>
+#include <string.h>
+
+#include "keybasket.h"
+
+static void fail(const char *why)
+{
+    fprintf(stderr, "calls: %s\n", why);
+    exit(2);
+}
+
+/* Memory of this many bytes, each of them a5; never null, not even for none. Of no byte more, so that one too many is found out. */
+static void *memory(size_t bytes)
+{
+    void *p = malloc(bytes > 0 ? bytes : 1);
+    if (p == NULL)
+        fail("no memory");
+    return memset(p, 0xa5, bytes);
+}
+
+static uint64_t number_of(const char *word)
+{
+    char *end;
+    uint64_t number = strtoull(word, &end, 10);
+    if (word[0] < '0' || word[0] > '9' || *end != '\0')
+        fail("a code and ROOM are numbers");
+    return number;
+}
+
+static void print_reading(uint64_t entry, const uint8_t *text, size_t len)
+{
+    uint64_t *answer = memory(KEYBASKET_NUMBERS * sizeof *answer);
+    keybasket_read(entry, text, len, answer);
+    for (int i = 0; i < KEYBASKET_NUMBERS; i++)
+        printf(i == 0 ? "%llu" : " %llu", (unsigned long long)answer[i]);
+    putchar('\n');
+    free(answer);
+}
+
+static void print_value(uint64_t type, const uint8_t *text, size_t len)
+{
+    uint64_t *value = memory(sizeof *value);
+    *value = 7;
+    size_t answer = keybasket_value(type, text, len, value);
+    printf("%zu %llu\n", answer, (unsigned long long)*value);
+    free(value);
+}
+
+static void print_decoded(uint64_t entry, const uint8_t *text, size_t len, size_t room)
+{
+    uint8_t *out = memory(room);
+    printf("%zu ", keybasket_decode(entry, text, len, out, room));
+    for (size_t i = 0; i < room; i++)
+        printf("%02x", out[i]);
+    putchar('\n');
+    free(out);
+}
+
+int main(int argc, char **argv)
+{
+    for (int i = 1; i < argc; i += 3) {
+        const char *call = argv[i];
+        int decodes = strcmp(call, "decode") == 0;
+        if (argc - i < 3 + decodes)
+            fail("a word is missing");
+        uint64_t code = number_of(argv[i + 1]);
+        size_t len = strlen(argv[i + 2]);
+        uint8_t *text = memory(len);
+        memcpy(text, argv[i + 2], len);
+        if (decodes) {
+            print_decoded(code, text, len, number_of(argv[i + 3]));
+            i++;
+        } else if (strcmp(call, "read") == 0) {
+            print_reading(code, text, len);
+        } else if (strcmp(call, "value") == 0) {
+            print_value(code, text, len);
+        } else {
+            fail("a call is read, value or decode");
+        }
+        free(text);
+    }
+    if (fflush(stdout) != 0)
+        fail("standard output cannot be written");
+    return 0;
+}
