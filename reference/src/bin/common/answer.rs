@@ -61,7 +61,11 @@ pub fn read(code: u8, text: &[u8]) -> Result<Reading, Refusal> {
     if code > 8 {
         return Err(Refusal::plain(BAD_CODE));
     }
-    let text = checked(text)?;
+    read_checked(code, checked(text)?)
+}
+
+/// The reading by an entry code of 0 to 8 of a text that has passed the input checks.
+pub fn read_checked(code: u8, text: &str) -> Result<Reading, Refusal> {
     Ok(match code {
         0 => any(Literal::parse(text)?),
         1 => bool_reading(BoolLit::parse(text)?),

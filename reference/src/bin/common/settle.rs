@@ -19,7 +19,11 @@ pub fn settle(text: &[u8], out: &mut [u8]) -> Result<(u8, usize), Refusal> {
 /// Kind and settled form. "Order: [..] litrs's own in its order, then 45 or 46, 47, 48."
 pub fn settled_form(text: &[u8]) -> Result<(u8, Vec<u8>), Refusal> {
     // "It is made from entry 0's reading."
-    let reading = answer::read(0, text)?;
+    form_of(text, answer::read(0, text)?)
+}
+
+/// Kind and settled form of a text with this reading by entry 0.
+pub fn form_of(text: &[u8], reading: Reading) -> Result<(u8, Vec<u8>), Refusal> {
     let mut form = literal(text, &reading)?;
     // "The suffix follows unchanged."
     form.extend_from_slice(&text[reading.suffix..]);
