@@ -32,10 +32,12 @@ impl Answer {
 pub fn agree(row: &Row) -> Result<(), String> {
     for text in &row.texts {
         let (ours, theirs) = (our_answer(row.call, text), rust_answer(row.call, text));
-        let fault = match () {
-            _ if ours != theirs => "the answers differ",
-            _ if ours.accepted() != row.accepted => "not the answer that was meant",
-            _ => continue,
+        let fault = if ours != theirs {
+            "the answers differ"
+        } else if ours.accepted() != row.accepted {
+            "not the answer that was meant"
+        } else {
+            continue;
         };
         return Err(format!(
             "{}: {fault}\n  text {}\n  ours {}\n  Rust {}",
@@ -58,9 +60,7 @@ fn our_answer(call: Call, text: &[u8]) -> Answer {
     match call {
         Call::Read => Answer::Reading(ours::read(text)),
         Call::Value => ours::value(text).map_or_else(Answer::Refused, Answer::Value),
-        Call::DecodeOwned(entry) | Call::DecodeLent(entry) => {
-            written(ours::decode(entry, text, &mut out), out)
-        }
+        Call::DecodeOwned(entry) | Call::DecodeLent(entry) => written(ours::decode(entry, text, &mut out), out),
         Call::SettleTwoPass | Call::SettleCollected => written(ours::settle(text, &mut out), out),
     }
 }
@@ -85,9 +85,7 @@ fn rust_answer(call: Call, text: &[u8]) -> Answer {
             Ok(bytes) => Answer::Bytes(bytes),
             Err(e) => Answer::Refused(e.kind_number()),
         },
-        Call::DecodeLent(entry) => {
-            written(rust::decode_lent(entry, text, &mut out).map_err(|e| e.number), out)
-        }
+        Call::DecodeLent(entry) => written(rust::decode_lent(entry, text, &mut out).map_err(|e| e.number), out),
         Call::SettleTwoPass => written(two_pass::settle(text, &mut out), out),
         Call::SettleCollected => match rust::settle_collected(text) {
             Ok((_, form)) => Answer::Bytes(form),
@@ -112,9 +110,7 @@ fn numbers(found: Result<Reading, Refusal>) -> Numbers {
     let found = match found {
         Ok(found) => found,
         Err(Refusal { number, span: None }) => return [0, number.into(), 0, 0, 0],
-        Err(Refusal { number, span: Some((start, end)) }) => {
-            return [0, number.into(), 1, start as u64, end as u64]
-        }
+        Err(Refusal { number, span: Some((start, end)) }) => return [0, number.into(), 1, start as u64, end as u64],
     };
     let [a, b, c] = match found.value {
         Value::Bool(truth) => [truth.into(), 0, 0],
@@ -124,9 +120,7 @@ fn numbers(found: Result<Reading, Refusal>) -> Numbers {
         }
         Value::Char(c) => [c.into(), 0, 0],
         Value::Byte(b) => [b.into(), 0, 0],
-        Value::Quoted { hashes, bytes } => {
-            [hashes.is_some().into(), hashes.unwrap_or(0) as u64, bytes.len() as u64]
-        }
+        Value::Quoted { hashes, bytes } => [hashes.is_some().into(), hashes.unwrap_or(0) as u64, bytes.len() as u64],
     };
     [found.kind.into(), found.suffix as u64, a, b, c]
 }

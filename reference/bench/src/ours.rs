@@ -12,13 +12,7 @@ const U64: u64 = 4;
 extern "C" {
     fn keybasket_read(entry: u64, text: *const u8, text_len: usize, answer: *mut u64);
     fn keybasket_value(ty: u64, text: *const u8, text_len: usize, value: *mut u64) -> usize;
-    fn keybasket_decode(
-        entry: u64,
-        text: *const u8,
-        text_len: usize,
-        out: *mut u8,
-        out_len: usize,
-    ) -> usize;
+    fn keybasket_decode(entry: u64, text: *const u8, text_len: usize, out: *mut u8, out_len: usize) -> usize;
     fn keybasket_settle(text: *const u8, text_len: usize, out: *mut u8, out_len: usize) -> usize;
 }
 
@@ -41,15 +35,7 @@ pub fn value(text: &[u8]) -> Result<u64, Refused> {
 
 /// Writes the decoded bytes by entry 5, 7 or 8 to the front of `out`: how many there are.
 pub fn decode(entry: u8, text: &[u8], out: &mut [u8]) -> Result<usize, Refused> {
-    length(unsafe {
-        keybasket_decode(
-            entry.into(),
-            text.as_ptr(),
-            text.len(),
-            out.as_mut_ptr(),
-            out.len(),
-        )
-    })
+    length(unsafe { keybasket_decode(entry.into(), text.as_ptr(), text.len(), out.as_mut_ptr(), out.len()) })
 }
 
 /// Writes the settled form to the front of `out`: its length.

@@ -13,9 +13,15 @@ const FARTHEST: i64 = 1_000_000;
 enum Form<'a> {
     Word(&'a str),
     /// An optional `0` in front, and a number.
-    Integer { zero: bool, number: u64 },
+    Integer {
+        zero: bool,
+        number: u64,
+    },
     Float(Scaled<'a>),
-    Quoted { style: Style, value: &'a [u8] },
+    Quoted {
+        style: Style,
+        value: &'a [u8],
+    },
 }
 
 /// A float: the digits of both parts, of which some at the front and at the end are left out, and the power of ten.
@@ -47,9 +53,7 @@ pub fn settle(text: &str, out: &mut [u8]) -> Result<usize, Refused> {
         Literal::Bool(l) => Form::Word(l.as_str()),
         Literal::Integer(l) => integer(l)?,
         Literal::Float(l) => float(l)?,
-        Literal::Char(l) => {
-            quoted(style(b"'", b'\'', false), l.value().encode_utf8(&mut utf8).as_bytes())
-        }
+        Literal::Char(l) => quoted(style(b"'", b'\'', false), l.value().encode_utf8(&mut utf8).as_bytes()),
         Literal::Byte(l) => {
             byte[0] = l.value();
             quoted(style(b"b'", b'\'', true), &byte)
@@ -107,9 +111,7 @@ fn both<'a>(whole: &'a str, fraction: &'a str) -> impl DoubleEndedIterator<Item 
 
 /// The written exponent, or 10^15 either way where it is farther.
 fn exponent(part: &str) -> i64 {
-    let size = digits(part).fold(0, |sum: i64, d| {
-        (sum * 10 + i64::from(d - b'0')).min(1_000_000_000_000_000)
-    });
+    let size = digits(part).fold(0, |sum: i64, d| (sum * 10 + i64::from(d - b'0')).min(1_000_000_000_000_000));
     if part.contains('-') {
         -size
     } else {
@@ -117,7 +119,7 @@ fn exponent(part: &str) -> i64 {
     }
 }
 
-fn quoted(style: Style, value: &[u8]) -> Form {
+fn quoted(style: Style, value: &[u8]) -> Form<'_> {
     Form::Quoted { style, value }
 }
 
