@@ -16,7 +16,6 @@ use Rattle.types.specs.declared.IntegerFound.the-variants as integer
 use Rattle.types.specs.declared.FloatType.{FloatType}
 use Rattle.types.specs.declared.FloatType.the-variants.{F32, F64}
 use Rattle.types.specs.declared.FloatFound.{FloatFound}
-use Rattle.types.specs.declared.FloatFound.the-variants as float
 use Rattle.literal.specs.Suffixes.{codeOfInteger, integerFromSuffix, codeOfFloat, floatFromSuffix}
 use Rattle.demands.specs.Demand1.{integerName, floatName, SuffixAnswers, Demand1}
 use Rattle.demands.proofs.ReadCall.{read-answers}

@@ -10,7 +10,7 @@ use native.Mathlib.Omega.{arith}
 use lib.Dec.{T, eqb}
 use lib.ListN.{length, getD, drop, length-append}
 use lib.Seq.{take-append-seam, drop-append-seam, drop-append-add}
-use borrow.Author.Tests.{eq-eqb, ne-eqb, le-leb}
+use borrow.Author.Tests.{eq-eqb, ne-eqb}
 use Rattle.err.specs.Outcome.{Values, accepted, digits}
 use Rattle.scan.specs.Run.{run, All}
 use Rattle.scan.specs.Sets.{only}

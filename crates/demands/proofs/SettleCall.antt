@@ -1,11 +1,11 @@
 -- Settling, measuring and the entry for C answer every text.
 -- Assumes nothing.
 use mathlib.Core.Path.{_≡_, refl, ap, _∙_, sym}
-use mathlib.Core.List.{List, []}
+use mathlib.Core.List.{List}
 use Prim.Native.Nat.{ℕ, _+_, _≤_}
 use native.Mathlib.Omega.{arith}
 use borrow.Author.Tests.{leb-true, le-leb}
-use lib.Dec.{leb, eqb}
+use lib.Dec.{leb}
 use lib.ListN.{length, drop}
 use Rattle.err.specs.Outcome.{Place, Outcome, refused, accepted}
 use Rattle.scan.proofs.Cases.{cond-in, cond-eq}
@@ -16,7 +16,7 @@ use Rattle.form.specs.Form.{formOf, faultOf}
 use Rattle.form.specs.Reduced.{reduce}
 use Rattle.literal.specs.Readings.{readAt}
 use Rattle.settle.specs.Worths.{worthOf}
-use Rattle.settle.specs.Settled.{Settle, formed, withheld, measured, measureOf, measureAt, fitted, settleAt, formBy, formAt, bufferBy, bufferAt}
+use Rattle.settle.specs.Settled.{Settle, formed, withheld, measured, measureOf, measureAt, fitted, settleAt, formBy, formAt, bufferAt}
 use Rattle.integer.specs.Value.{Valued}
 use Rattle.desk.specs.Code.{readingNumbers, valueCode, valueAfter, decodeCode, codeOf}
 use Rattle.demands.specs.Demand1.{Answered, SettleAnswered, SettleAnswers, NumberAnswers}

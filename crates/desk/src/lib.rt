@@ -9,7 +9,7 @@ use settle::Settled;
 use string::Decoded;
 ghost use mathlib.Core.Path.{_≡_};
 ghost use Prim.Native.Nat.{_+_};
-ghost use mathlib.Core.List.{_∷_, []};
+ghost use mathlib.Core.List.{_∷_};
 ghost use lib.ListN.{length};
 ghost use Rattle.err.specs.Numbers.{numberOf};
 ghost use Rattle.err.specs.Reading.{placeOf, outcomeOf};

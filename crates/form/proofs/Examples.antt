@@ -1,7 +1,7 @@
 -- Settled forms of single values, by computing: what is escaped where, and when a zero is written twice.
 -- Assumes nothing.
 use mathlib.Core.Path.{_≡_, refl}
-use mathlib.Core.List.{List, [], _∷_}
+use mathlib.Core.List.{[], _∷_}
 use Rattle.buffer.specs.Digits.{decimal, hexDigit, hexDigits}
 use Rattle.utf8.specs.Utf8.{encode}
 use Rattle.utf8.specs.Decode.{lengthFrom, decode2, rest2, decodeBy, decode}

@@ -1,11 +1,9 @@
 -- The settled form of a meaning, as document 01 coins the word: one spelling for each kind, exact value and suffix.
 -- Assumes nothing.
-use mathlib.Core.Path.{_≡_}
 use mathlib.Core.Bool.{true, false, cond, _&&_}
 use mathlib.Core.List.{List, [], _∷_, _++_}
-use Prim.Native.Nat.{ℕ, _+_, _<_}
+use Prim.Native.Nat.{ℕ, _+_}
 use lib.Dec.{eqb, leb}
-use lib.ListN.{length}
 use Rattle.buffer.specs.Digits.{decimal}
 use Rattle.grammar.specs.Notation.{begins, byte, _∪_}
 use Rattle.grammar.specs.Decimal.{Decimal}

@@ -1,7 +1,7 @@
 -- The reduced power of ten, as document 01 coins the word (The settled form, Float).
 -- Assumes nothing.
 use mathlib.Core.Path.{_≡_}
-use mathlib.Core.Bool.{true, false, cond}
+use mathlib.Core.Bool.{cond}
 use Prim.Native.Nat.{ℕ, zero, suc, _+_, _-_, _/_, _%_, _<_, min}
 use lib.Dec.{eqb}
 use Rattle.grammar.specs.Decimal.{Decimal, SameValue}

@@ -1,22 +1,22 @@
 -- A text is a FLOAT_LITERAL exactly where its scan accepts it.
 -- Assumes nothing.
 use mathlib.Core.Path.{_≡_, refl, sym, ap, _∙_, subst, subst⁻¹}
-use mathlib.Core.Logic.{_↔_, _≢_, _⊎_, inl, inr, ⊎-elim}
-use mathlib.Core.Bool.{Bool, true, false, cond, not, _&&_, _||_}
-use mathlib.Core.List.{List, [], _∷_, _++_, append-assoc, append-nil, head-eq-of-cons-eq, tail-eq-of-cons-eq}
-use Prim.Native.Nat.{ℕ, zero, suc, _+_, _≤_, _<_}
+use mathlib.Core.Logic.{_↔_, _⊎_, inl, inr, ⊎-elim}
+use mathlib.Core.Bool.{Bool, true, false, cond, not, _&&_}
+use mathlib.Core.List.{List, [], _∷_, _++_, append-assoc, tail-eq-of-cons-eq}
+use Prim.Native.Nat.{ℕ, _+_, _≤_}
 use native.Mathlib.Omega.{arith}
-use lib.Dec.{T, leb, eqb, eqb→eq, eqb-refl}
+use lib.Dec.{T, eqb, eqb→eq}
 use lib.ListN.{length, drop, length-append}
 use borrow.Author.Tests.{ne-eqb}
-use Rattle.grammar.specs.Notation.{Class, Lang, all, begins, _∪_, one, many, opt, text, Followed, Longest, range, byte, _·_, _or_}
+use Rattle.grammar.specs.Notation.{Class, Lang, all, begins, _∪_, one, many, opt, text, Followed, Longest, byte, _·_, _or_}
 use Rattle.grammar.specs.Suffixes.{DEC-DIGIT, LOW, E, SUFFIX, SUFFIX-NO-E}
 use Rattle.grammar.specs.Numbers.{BIN-DIGIT, OCT-DIGIT, HEX-DIGIT, SIGN, DEC-LITERAL, FLOAT-EXPONENT, POINT-PART, FRACTION-PART, EXPONENT-PART, RESERVED-NUMBER, bin-out, oct-out, period, exp, bin-empty, oct-empty, hex-empty, exp-empty, FLOAT-LITERAL, no-digit}
 use Rattle.grammar.proofs.Scan.{takeWhile, dropWhile, any, empty, suffixOk, prefixed}
 use Rattle.grammar.specs.Values.{floatValue}
 use Rattle.grammar.proofs.Scan.{Parts, decimalOf, Run, floatParts, floatOk, behindWhole, behindPoint, behindFraction, behindE, behindSign, without}
-use Rattle.grammar.proofs.Runs.{T-true, true-T, F-false, not-T, T-not, and-l, and-r, and-i, or-l, or-r, or-e, span-eq, span-all, span-stop, span-only, span-most, all-append, mixed, mixed-all, any-left}
-use Rattle.grammar.proofs.Integers.{range-is, low-is, Dec, dec-open, dec-make, dec-all, dec-apart, begins-both, suffix-in, suffix-ok, ending-in, ending-ok, Exponent, exponent-open, prefix-is, dec-front, radix-prefixed, empty-prefixed, Apart, bin-apart, oct-apart, hex-apart, at, no-any, low-more, dec-first}
+use Rattle.grammar.proofs.Runs.{T-true, true-T, F-false, not-T, T-not, and-l, and-r, and-i, or-r, or-e, span-eq, span-all, span-only, span-most, all-append, mixed, mixed-all, any-left}
+use Rattle.grammar.proofs.Integers.{range-is, low-is, Dec, dec-open, dec-make, dec-all, dec-apart, begins-both, suffix-in, suffix-ok, ending-in, ending-ok, Exponent, prefix-is, dec-front, radix-prefixed, empty-prefixed, Apart, bin-apart, oct-apart, hex-apart, at, no-any, low-more, dec-first}
 use Rattle.grammar.proofs.FloatValues.{sign-run, mantissa-whole, mantissa-point, value-without, value-powers}
 
 abbrev FLOAT-PART : Lang

@@ -3,14 +3,14 @@
 use mathlib.Core.Path.{_≡_, refl, sym, ap, _∙_, subst, subst⁻¹}
 use mathlib.Core.Logic.{_↔_, _≢_, _⊎_, inl, inr, ⊎-elim}
 use mathlib.Core.Bool.{Bool, true, false, cond, not, _&&_, _||_}
-use mathlib.Core.List.{List, [], _∷_, _++_, append-assoc, append-nil, head-eq-of-cons-eq, tail-eq-of-cons-eq, nil≢cons}
-use Prim.Native.Nat.{ℕ, zero, suc, _+_, _≤_, _<_, suc-le-suc}
+use mathlib.Core.List.{List, [], _∷_, _++_, append-assoc, head-eq-of-cons-eq, tail-eq-of-cons-eq}
+use Prim.Native.Nat.{ℕ, _+_, _≤_, _<_}
 use native.Mathlib.Omega.{arith}
 use lib.Dec.{T, leb, eqb, eqb→eq, eqb-refl, leb→le}
 use lib.ListN.{length, drop, length-append}
-use Rattle.grammar.specs.Notation.{Class, Lang, all, begins, _∪_, one, many, opt, text, Followed, Longest, range, byte, _·_}
+use Rattle.grammar.specs.Notation.{Class, all, begins, _∪_, one, many, opt, text, Followed, Longest, range, byte, _·_}
 use Rattle.grammar.specs.Suffixes.{DEC-DIGIT, LOW, E, XID-START, XID-CONTINUE, SUFFIX, SUFFIX-NO-E}
-use Rattle.grammar.specs.Numbers.{BIN-DIGIT, OCT-DIGIT, HEX-DIGIT, SIGN, DEC-LITERAL, RADIX-LITERAL, BIN-LITERAL, OCT-LITERAL, HEX-LITERAL, INTEGER-PART, RESERVED-NUMBER, bin-out, oct-out, period, exp, bin-empty, oct-empty, hex-empty, exp-empty, INTEGER-LITERAL, bare, no-digit}
+use Rattle.grammar.specs.Numbers.{BIN-DIGIT, OCT-DIGIT, HEX-DIGIT, SIGN, DEC-LITERAL, RADIX-LITERAL, INTEGER-PART, RESERVED-NUMBER, bin-out, oct-out, period, exp, bin-empty, oct-empty, hex-empty, exp-empty, INTEGER-LITERAL, bare, no-digit}
 use Rattle.grammar.proofs.Scan.{takeWhile, dropWhile, any, empty, suffixOk, digitsOk, prefixed, integerOk, integerPart, integerSuffix}
 use Rattle.grammar.proofs.Runs.{T-true, true-T, not-T, T-not, and-l, and-r, and-i, or-l, or-r, or-e, span-eq, span-all, span-stop, span-only, span-most, all-append, mixed, mixed-all, any-left}
 use Rattle.grammar.proofs.Splits.{longest-unique}

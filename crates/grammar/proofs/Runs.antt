@@ -1,15 +1,14 @@
 -- Laws of the run of bytes of a class at the front of a text, and of tests.
 -- Assumes nothing.
-use mathlib.Core.Path.{_≡_, refl, sym, ap, _∙_, subst}
-use mathlib.Core.Logic.{_↔_, _≢_, _⊎_, inl, inr}
+use mathlib.Core.Path.{_≡_, refl, ap, _∙_}
+use mathlib.Core.Logic.{_⊎_, inl, inr}
 use mathlib.Core.Bool.{Bool, true, false, cond, not, _&&_, _||_}
-use mathlib.Core.List.{List, [], _∷_, _++_, append-assoc, append-nil, head-eq-of-cons-eq, tail-eq-of-cons-eq, nil≢cons}
-use Prim.Native.Nat.{ℕ, zero, suc, _+_, _≤_, _<_, suc-le-suc}
+use mathlib.Core.List.{List, [], _∷_, _++_}
+use Prim.Native.Nat.{ℕ, _+_, _≤_, suc-le-suc}
 use native.Mathlib.Omega.{arith}
 use lib.Dec.{T}
-use lib.ListN.{length, take, drop}
-use lib.Seq.{take-append-seam, drop-append-seam}
-use Rattle.grammar.specs.Notation.{Class, Lang, all, begins, _∪_, one, many, _·_}
+use lib.ListN.{length}
+use Rattle.grammar.specs.Notation.{Class, all, begins, _∪_, one, many, _·_}
 use Rattle.grammar.specs.Values.{before, behind}
 use Rattle.grammar.proofs.Scan.{takeWhile, dropWhile, any}
 

@@ -5,7 +5,6 @@ use mathlib.Core.Logic.{_⊎_}
 use mathlib.Core.Bool.{Bool, false, not, _&&_}
 use mathlib.Core.List.{List, [], _∷_}
 use Prim.Native.Nat.{ℕ}
-use lib.Dec.{T}
 use Rattle.grammar.specs.Notation.{Lang, Class, range, byte, _∪_, begins, one, many, text, _·_, _or_, opt, Followed, Longest}
 use Rattle.grammar.specs.Suffixes.{DEC-DIGIT, LOW, E, XID-START, SUFFIX, SUFFIX-NO-E}
 

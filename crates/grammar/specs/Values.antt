@@ -1,7 +1,7 @@
 -- Chapter Literal expressions: what a number literal is worth, before its suffix is judged and with no bound and no rounding (01: "a number
 -- is worth its exact number").
 -- Assumes nothing.
-use mathlib.Core.Bool.{Bool, cond, not, _&&_}
+use mathlib.Core.Bool.{Bool, cond, _&&_}
 use mathlib.Core.List.{List, [], _∷_, _++_}
 use Prim.Native.Nat.{ℕ, _+_, _*_, _-_}
 use lib.Dec.{eqb, leb}
