@@ -1,6 +1,6 @@
 /*
  * Keybasket for C: the reading of a Rust literal, an integer's value, a string's decoded bytes, and the settled form.
- * Link with target/staticlib/libdesk.a (`rt staticlib desk`), x86-64 Linux.
+ * Link with dist/libkeybasket.a (`make`), x86-64 Linux.
  */
 #ifndef KEYBASKET_H
 #define KEYBASKET_H

@@ -2,7 +2,7 @@
 //!
 //! Every text has an answer, of any bytes and any length: no call panics, allocates, or keeps anything for the next one. What a call
 //! answers is what docs/01-scope.md says, and that is proved of the calls behind this crate; the crate itself only puts their numbers
-//! into types. It links libdesk.a, for x86-64 Linux; build.rs says how the archive is found.
+//! into types. It links libkeybasket.a, for x86-64 Linux; build.rs says how the archive is found.
 //!
 //! ```
 //! use keybasket::{decode, read, settle, value, Entry, IntegerType, Literal, Quoted};
@@ -31,7 +31,7 @@ use std::ops::Range;
     target_os = "linux",
     target_pointer_width = "64"
 )))]
-compile_error!("keybasket: libdesk.a is for x86-64 Linux");
+compile_error!("keybasket: libkeybasket.a is for x86-64 Linux");
 
 /// No text is read that is longer, and no form or decoded value is longer: a buffer of this many bytes has room for each.
 pub const LONGEST: usize = 65536;

@@ -8,7 +8,9 @@ const REFUSED: usize = 100_000;
 /// The type code of u64.
 const U64: u64 = 4;
 
-// The same as in include/keybasket.h.
+// The archive is linked by the wrapper crate; the calls are made without its types. The same as in include/keybasket.h.
+use keybasket as _;
+
 extern "C" {
     fn keybasket_read(entry: u64, text: *const u8, text_len: usize, answer: *mut u64);
     fn keybasket_value(ty: u64, text: *const u8, text_len: usize, value: *mut u64) -> usize;
