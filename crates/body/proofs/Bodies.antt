@@ -9,8 +9,10 @@ use lib.ListN.{length, drop, length-append, length-drop}
 use lib.Seq.{drop-drop}
 use Rattle.escape.specs.Escape.{bytesOf, Valid}
 use Rattle.escape.specs.declared.Unescaped.{Unescaped}
-use Rattle.body.specs.Step.{End, close, Next, piece, stop}
-use Rattle.body.specs.Body.{Body, push, follow, bodyFrom, bodyBy}
+use Rattle.body.specs.Code.{Stopped}
+use Rattle.body.specs.Step.{End, close, Next, piece, stop, endOf}
+use Rattle.body.specs.Body.{Body, push, follow, bodyFrom, bodyBy, Measures}
+use Rattle.body.specs.declared.Measured.{Measured}
 use Rattle.body.proofs.Within.{EndIn, NextIn}
 
 pub push-push : (i n : ℕ) (v w : List ℕ) (b : Body) → push i v (push n w b) ≡ push (i + n) (v ++ w) b
@@ -120,6 +122,25 @@ module _ (step : List ℕ → Next) where
       -- and ends
       pub ends : (e : End) → step (drop i s) ≡ stop e → record { at = i; value = v; end = e } ≡ bodyBy step s
       ends e h = rw (body-stop (drop i s) e h, add-zero, append-nil) at (p .is)
+
+      -- then what is passed stands for the whole value
+      pub whole : Stopped (step (drop i s)) → v ≡ bodyBy step s .value
+      whole = go (step (drop i s)) refl
+        where
+          go : (x : Next) → step (drop i s) ≡ x → Stopped x → v ≡ bodyBy step s .value
+          go (piece n u) h t = absurd t
+          go (stop e) h t = ap (λ (b : Body). b .value) (ends e h)
+
+      -- and this is its measure
+      pub measures : (e : End) → step (drop i s) ≡ stop e → (m : Measured) → m .at ≡ i → m .len ≡ length v → endOf (m .end) ≡ e
+          → Measures (bodyBy step s) m
+      measures e h m a l w =
+          let b = ends e h in
+          record {
+            place = a ∙ ap (λ (x : Body). x .at) b;
+            count = l ∙ ap (λ (x : Body). length (x .value)) b;
+            why = w ∙ ap (λ (x : Body). x .end) b;
+          }
 
       -- what is passed is a part of the whole value
       pub part : length v ≤ length (bodyBy step s .value)

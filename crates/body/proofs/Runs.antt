@@ -6,16 +6,18 @@ use mathlib.Core.List.{List, [], _∷_, _++_}
 use Prim.Native.Nat.{ℕ, suc, _+_, _-_, _≤_}
 use native.Mathlib.Nat.{zero-add}
 use native.Mathlib.Omega.{arith}
-use borrow.Author.Tests.{eqb-true, eqb-false, le-ltb}
+use borrow.Author.Tests.{eqb-true, eqb-false, ne-eqb, le-ltb}
 use lib.Dec.{eqb, ltb}
 use lib.ListN.{length, take, drop, length-append, length-drop, length-take}
 use lib.Seq.{drop-drop}
-use Rattle.scan.specs.Run.{run}
+use Rattle.err.specs.Outcome.{between}
+use Rattle.scan.specs.Run.{run, Stops}
 use Rattle.scan.proofs.Cases.{clash}
-use Rattle.scan.proofs.Runs.{run-le}
+use Rattle.scan.proofs.Runs.{run-le, run-stops}
 use Rattle.escape.specs.declared.Allowed.{Allowed}
 use Rattle.escape.specs.declared.Unescaped.the-variants.{Byte}
-use Rattle.body.specs.Step.{Next, piece, plainByte, stepOf, rawStepOf}
+use Rattle.body.specs.Code.{Stopped}
+use Rattle.body.specs.Step.{close, refuse, Next, piece, stop, plainOf, plainByte, stepOf, rawStepOf}
 use Rattle.body.specs.Body.{push, bodyBy}
 use Rattle.body.specs.Pieces.{Char}
 use Rattle.body.proofs.Steps as steps
@@ -63,7 +65,34 @@ plain-step k b s t = char-step k b s (plain-char k b t)
 pub raw-plain-step : (k : Allowed) (h b : ℕ) (s : List ℕ) → plainByte k b ≡ true → rawStepOf k h (b ∷ s) ≡ piece 1 (Byte b)
 raw-plain-step k h b s t = raw-char-step k h b s (plain-char k b t)
 
+-- ---- a byte that does not stand for itself ends the body, or is a backslash
+
+pub plain-stops : (k : Allowed) (b : ℕ) → plainByte k b ≡ false → (b ≡ 92 → ⊥) → Stopped (plainOf k b)
+unfolding plainByte plainOf
+plain-stops k b t other =
+    go (eqb b 13) (eqb b 34) (eqb b 0) (ltb 127 b) (k .«allow_nul») (k .unicode) (rw (ne-eqb b 92 other) at t)
+  where
+    go : (c q z h n u : Bool) → cond c false (cond q false (cond z n (cond h u true))) ≡ false
+        → Stopped (cond c (stop (refuse 37 (between 0 1)))
+        (cond q (stop close)
+        (cond (not n && z) (stop (refuse 36 (between 0 1)))
+        (cond (not u && h) (stop (refuse 25 (between 0 1)))
+        (piece 1 (Byte b))))))
+    go true q z h n u e = tt
+    go false true z h n u e = tt
+    go false false true h true u e = clash refl e
+    go false false true h false u e = tt
+    go false false false true true true e = clash refl e
+    go false false false true false true e = clash refl e
+    go false false false true true false e = tt
+    go false false false true false false e = tt
+    go false false false false n u e = clash refl e
+
 -- ---- a run of such bytes, for any step and any test
+
+-- where a run ends, the next byte fails
+pub behind-run : (p : ℕ → Bool) (s : List ℕ) (i e : ℕ) → e ≡ i + run p (drop i s) → Stops p (drop e s)
+behind-run p s i e h = rw h (rw drop-drop at (run-stops p (drop i s)))
 
 module _ (step : List ℕ → Next) (p : ℕ → Bool) (law : (b : ℕ) (s : List ℕ) → p b ≡ true → step (b ∷ s) ≡ piece 1 (Byte b)) where
   -- THE LAW: a body is its front run, byte for byte, and the body of what follows.

@@ -1,10 +1,11 @@
 -- One law for each way through a step of a body.
 -- Assumes nothing.
-use mathlib.Core.Path.{_≡_, sym}
+use mathlib.Core.Path.{_≡_, sym, _∙_}
 use mathlib.Core.Bool.{true, false, not, _&&_}
 use mathlib.Core.List.{List}
 use Prim.Native.Nat.{ℕ, suc, _+_, _≤_, _<_}
 use native.Mathlib.Numerals.{add-one}
+use native.Mathlib.Omega.{arith}
 use borrow.Author.Tests.{eq-eqb, ne-eqb, le-leb, lt-leb}
 use lib.Dec.{eqb, ltb}
 use lib.ListN.{length, getD, drop, drop-of-length-le}
@@ -81,6 +82,9 @@ module _ (k : Allowed) (s : List ℕ) (i : ℕ) where
   pub at-plain : i < length s → (getD s i 0 ≡ 92 → ⊥) → plainOf k (getD s i 0) ≡ stepOf k (drop i s)
   unfolding stepOf
   at-plain h e = rw (drop-cons s i 0 h, ne-eqb _ _ e)
+
+  pub at-quote : i < length s → getD s i 0 ≡ 34 → stop close ≡ stepOf k (drop i s)
+  at-quote h e = is-quote k (getD s i 0) (λ x. omega arith) e ∙ at-plain h (λ x. omega arith)
 
 -- ---- at an offset of a raw body
 

@@ -1,7 +1,6 @@
 -- The whole quoted string from the measure of its body, and where its parts lie in the text.
 -- Assumes nothing.
 use mathlib.Core.Path.{_≡_, refl, sym, subst}
-use mathlib.Core.Logic.{⊎-elim}
 use mathlib.Core.List.{List}
 use Prim.Native.Nat.{ℕ, _+_, _-_, _≤_, _<_}
 use native.Mathlib.Omega.{arith}
@@ -13,7 +12,7 @@ use Rattle.scan.specs.Sets.{only}
 use Rattle.scan.proofs.Cases.{cond-eq, cond-lt, by-lt}
 use Rattle.scan.proofs.Runs.{run-le}
 use Rattle.parse.specs.Suffix.{suffixFault}
-use Rattle.parse.proofs.Suffixes.{fault-none, fault-cases}
+use Rattle.parse.proofs.Suffixes.{fault-none, fault-small}
 use Rattle.escape.specs.declared.Allowed.{Allowed}
 use Rattle.body.specs.Step.{End, close, refuse, Next, endOf, stepOf, rawStepOf}
 use Rattle.body.specs.Body.{Fitting, Body, bodyBy, body, rawBody, Measures}
@@ -37,10 +36,6 @@ module _ (text : List ℕ) (r : Rawness) (n len f : ℕ) (is : f ≡ suffixFault
 pub faulty : (text : List ℕ) (n : ℕ) → (suffixFault (drop n text) ≡ 0 → ⊥) → n < length text
 faulty text n h =
     by-lt n (length text) (λ l. l) (λ l. absurd (h (sym (fault-none (drop n text) (omega (arith, length-drop n text))))))
-
--- and its number is 2 or 39
-fault-small : (s : List ℕ) → suffixFault s ≤ 41
-fault-small s = ⊎-elim (λ e. omega arith) (⊎-elim (λ e. omega arith) (λ e. omega arith)) (fault-cases s)
 
 -- ---- a measure of a body, at an offset of a text
 

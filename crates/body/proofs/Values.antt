@@ -1,22 +1,29 @@
--- What a step can stand for, so that litrs's `unwrap_char` and `unwrap_byte` meet no value that they panic on.
+-- What a step can stand for, so that litrs's `unwrap_char` and `unwrap_byte` meet no value that they panic on; and a body that is as long
+-- as what it stands for.
 -- Assumes nothing.
-use mathlib.Core.Path.{_≡_, refl}
+use mathlib.Core.Path.{_≡_, refl, sym}
 use mathlib.Core.Bool.{false, not, _&&_}
 use mathlib.Core.List.{List, [], _∷_}
 use Prim.Native.Nat.{ℕ, _<_}
 use native.Mathlib.Omega.{arith}
 use lib.Dec.{eqb, ltb}
-use lib.ListN.{length, getD, drop}
+use lib.ListN.{length, getD, take, drop, length-append}
+use lib.Seq.{take-add}
 use Rattle.scan.specs.Run.{run}
 use Rattle.scan.proofs.Cases.{cond-in, cond-eq, clash}
 use Rattle.parse.specs.Sets.{blank}
 use Rattle.utf8.specs.Cut.{front}
-use Rattle.escape.specs.Escape.{Escaped, value, bad, escapeOf}
+use Rattle.escape.specs.Escape.{Escaped, value, bad, bytesOf, escapeOf}
 use Rattle.escape.specs.declared.Allowed.{Allowed}
 use Rattle.escape.specs.declared.Unescaped.{Unescaped}
 use Rattle.escape.specs.declared.Unescaped.the-variants.{Nothing, Byte, Unicode}
+use Rattle.escape.proofs.Within.{EscapeIn, escape-in}
 use Rattle.escape.proofs.Values.{Unwraps, EscapeUnwraps, escape-unwraps}
 use Rattle.body.specs.Step.{Next, piece, stop, ofEscape, lineBreakOf, backslashOf, plainOf, stepOf}
+use Rattle.body.specs.Body.{body}
+use Rattle.body.proofs.Within.{NextIn, step-in}
+use Rattle.body.proofs.Bodies.{induct, value-short}
+use Rattle.body.proofs.Raws.{take-none, take-one}
 
 -- a dropped line break stands for nothing; any other value can be unwrapped
 abbrev pub PieceUnwraps : Allowed → Unescaped → Type 0
@@ -85,3 +92,51 @@ module _ (k : Allowed) (s : List ℕ) (n : ℕ) where
       cond-eq (λ (x : ℕ). b < 256) (getD s 0 0) 92 {x = 0} {y = 0}
       (λ f. r .0 f .0)
       (λ f. let z : b ≡ getD s 0 0 = cc (r .1 f) in omega arith)
+
+-- ---- a body that is as long as what it stands for
+
+-- a piece that is as long as what it stands for is its own bytes
+abbrev Itself : List ℕ → Next → Type 0
+Itself s (piece n u) = length (bytesOf u) ≡ n → bytesOf u ≡ take n s
+Itself s (stop e) = Unit {0}
+
+-- each piece that a backslash starts is longer
+backslash-itself : (k : Allowed) (s : List ℕ) → Itself s (backslashOf k s)
+unfolding backslashOf lineBreakOf
+backslash-itself k s =
+    let P : Next → Type 0 = Itself s in
+    let rest : List ℕ = drop 2 s in
+    cond-eq P (getD s 1 0) 10
+    (λ e. cond-in P (eqb (run blank rest) (length rest)) (λ f. tt) (λ f g. absurd (omega arith)))
+    (λ e. of-escape (escapeOf k (front s)) (escape-in k (front s)))
+  where
+    of-escape : (e : Escaped) → EscapeIn (length (front s)) e → Itself s (ofEscape e)
+    of-escape (value u n) h = λ g. absurd (omega (arith, h .2))
+    of-escape (bad num p) h = tt
+
+plain-itself : (k : Allowed) (b : ℕ) (s : List ℕ) → Itself (b ∷ s) (plainOf k b)
+unfolding plainOf
+plain-itself k b s =
+    let P : Next → Type 0 = Itself (b ∷ s) in
+    cond-eq P b 13 (λ e. tt) λ e.
+    cond-eq P b 34 (λ e. tt) λ e.
+    cond-in P (not (k .«allow_nul») && eqb b 0) (λ e. tt) λ e.
+    cond-in P (not (k .unicode) && ltb 127 b) (λ e. tt) λ e g. sym (take-one (b ∷ s) (omega arith))
+
+step-itself : (k : Allowed) (s : List ℕ) → Itself s (stepOf k s)
+unfolding stepOf
+step-itself k [] = tt
+step-itself k (b ∷ s) = cond-eq (Itself (b ∷ s)) b 92 (λ e. backslash-itself k (b ∷ s)) (λ e. plain-itself k b s)
+
+-- THE LAW: where a body is as long as its value, the value is the bytes before its end, as they stand.
+pub as-it-stands : (k : Allowed) (s : List ℕ) → length (body k s .value) ≡ body k s .at → body k s .value ≡ take (body k s .at) s
+as-it-stands k s =
+    induct (stepOf k) 1 (step-in k) (λ s b. length (b .value) ≡ b .at → b .value ≡ take (b .at) s)
+    (λ s e h g. sym (take-none s))
+    (λ s n u h p l r g.
+    let i : NextIn 1 (length s) (piece n u) = rw h at (step-in k s) in
+    let f : Itself s (piece n u) = rw h at (step-itself k s) in
+    let rest = value-short (stepOf k) 1 (step-in k) (drop n s) in
+    let sum = length-append (bytesOf u) (body k (drop n s) .value) in
+    rw (f (omega (arith, i .2)), r (omega (arith, i .2))) (sym (take-add n (body k (drop n s) .at) s)))
+    s

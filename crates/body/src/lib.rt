@@ -11,13 +11,16 @@ use parse::Suffix;
 use scan::ByteSet;
 ghost use mathlib.Core.Path.{_≡_};
 ghost use mathlib.Core.Bool.{cond};
-ghost use Prim.Native.Nat.{_+_, _-_, _≤_};
+ghost use Prim.Native.Nat.{_+_, _-_, _≤_, _<_};
+ghost use lib.Dec.{ltb, leb};
 ghost use lib.ListN.{length, drop};
 ghost use Rattle.err.specs.Reading.{hashesOf};
-ghost use Rattle.scan.specs.Run.{run, outs};
+ghost use Rattle.scan.specs.Run.{run};
+ghost use Rattle.scan.specs.Sets.{only};
 ghost use Rattle.buffer.specs.Buffer.{Wrote};
 ghost use Rattle.utf8.specs.Cut.{lastLen};
-ghost use Rattle.body.specs.Step.{endOf, nextOf, lineBreakOf, backslashOf, plainOf, plainByte, stepOf, rawStepOf};
+ghost use Rattle.body.specs.Code.{codeOf, Stopped};
+ghost use Rattle.body.specs.Step.{stop, endOf, nextOf, lineBreakOf, backslashOf, plainOf, plainByte, stepOf, rawStepOf};
 ghost use Rattle.body.specs.Body.{body, rawBody, Measures, Fitting};
 ghost use Rattle.body.specs.Quote.{quoteOf, closing, suffixed, afterEnd, stringOf, rawOf};
 
@@ -94,24 +97,32 @@ fn is_plain(b: u8, k: Allowed) -> bool
     true
 }
 
-fn mark(b: u8, k: Allowed) -> u8
-    ensures { λ r. ⌜ (r ≤ 1) × (r ≡ cond (plainByte k b) 0 1) ⌝ }
+fn smaller(a: u8, b: u8) -> u8
+    ensures { λ r. ⌜ r ≡ cond (ltb b a) b a ⌝ }
 {
-    if is_plain(b, k) { 0 } else { 1 }
+    if b < a { b } else { a }
 }
 
-// How many bytes do not stand for themselves. With no exit on the way and a sum of one byte the compiler makes vectors of it.
-fn marks(s: &[u8], k: Allowed) -> u8
-    requires { ⌜ length (now s) ≤ 255 ⌝ }
-    ensures { λ r. ⌜ r ≡ outs (plainByte k) (now (s .entry)) ⌝ }
+// Where a byte at j stands in the way of a run over 64 bytes, or 64.
+fn place(b: u8, j: u8, k: Allowed) -> u8
+    ensures { λ r. ⌜ r ≡ cond (plainByte k b) 64 j ⌝ }
 {
-    let mut n: u8 = 0;
-    let mut i = 0;
-    while i < s.len() {
-        n += mark(s[i], k);
-        i += 1;
+    if is_plain(b, k) { 64 } else { j }
+}
+
+// Where the run of bytes that stand for themselves ends in 64 bytes. With no exit on the way and a least number of one byte the compiler
+// makes vectors of it.
+fn block_run(s: &[u8], k: Allowed) -> u8
+    requires { ⌜ length (now s) ≡ 64 ⌝ }
+    ensures { λ r. ⌜ r ≡ run (plainByte k) (now (s .entry)) ⌝ }
+{
+    let mut m: u8 = 64;
+    let mut j: u8 = 0;
+    while j < 64 {
+        m = smaller(m, place(s[j as usize], j, k));
+        j += 1;
     }
-    n
+    m
 }
 
 // Where the run of bytes that stand for themselves ends, byte by byte.
@@ -137,8 +148,9 @@ fn block_end(s: &[u8], from: usize, k: Allowed) -> usize
     let mut i = from;
     while 64 <= s.len() - i {
         let e = i + 64;
-        if marks(&s[i..e], k) != 0 {
-            return byte_run(s, i, k);
+        let m = block_run(&s[i..e], k);
+        if m < 64 {
+            return i + m as usize;
         }
         i = e;
     }
@@ -149,6 +161,7 @@ fn block_end(s: &[u8], from: usize, k: Allowed) -> usize
 fn few(s: &[u8], from: usize, k: Allowed) -> usize
     requires { ⌜ from ≤ length (now s) ⌝ }
     ensures { λ r. ⌜ (from ≤ r) × (r ≤ length (now (s .entry))) × (r + run (plainByte k) (drop r (now (s .entry))) ≡ from + run (plainByte k) (drop from (now (s .entry)))) ⌝ }
+    ensures { λ r. ⌜ (r - from < 16 → r ≡ from + run (plainByte k) (drop from (now (s .entry)))) ⌝ }
 {
     let mut i = from;
     while i < s.len() {
@@ -170,7 +183,7 @@ pub fn plain_end(s: &[u8], from: usize, k: Allowed) -> usize
 {
     let i = few(s, from, k);
     if i - from < 16 {
-        return byte_run(s, i, k);
+        return i;
     }
     block_end(s, i, k)
 }
@@ -219,50 +232,103 @@ pub fn step_at(s: &[u8], i: usize, last: usize, k: Allowed) -> Step
     plain(b, k)
 }
 
+// A backslash and what follows at an offset, as one number; 0 where it ends the body, or where there is none. An escape sees what stands
+// before `end`.
+pub fn code_at(s: &[u8], at: usize, end: usize, k: Allowed) -> u64
+    requires { ⌜ (at ≤ length (now s)) × ((length (now s) < 4294967296) × (end ≡ length (now s) - lastLen (now s))) ⌝ }
+    ensures { λ r. ⌜ r ≡ codeOf k (drop at (now (s .entry))) ⌝ }
+{
+    if s.len() - at < 2 {
+        return 0;
+    }
+    if s[at] != b'\\' {
+        return 0;
+    }
+    let next = at + 1;
+    if s[next] == b'\n' {
+        let from = at + 2;
+        let n = parse::blanks_len(&s[from..]);
+        if from + n == s.len() {
+            return 0;
+        }
+        return (n + 2) as u64 * 4294967296;
+    }
+    if end <= next {
+        return 0;
+    }
+    escape::code(&s[at..end], k)
+}
+
+// Why a quoted body ends where neither a piece with a code nor a byte that stands for itself is.
+fn ending_at(s: &[u8], at: usize, last: usize, k: Allowed) -> Ending
+    requires { ⌜ (last ≡ lastLen (now s)) × Stopped (stepOf k (drop at (now s))) ⌝ }
+    ensures { λ r. ⌜ stop (endOf r) ≡ stepOf k (drop at (now (s .entry))) ⌝ }
+{
+    let next = step_at(s, at, last, k);
+    // cannot arise: the step is none that goes on
+    let Step::Stop(why) = next else {
+        return Ending::Close;
+    };
+    why
+}
+
 // The body of a quoted string: s is what stands behind the opening quote, to the end of the text.
 pub fn measure(s: &[u8], k: Allowed) -> Measured
+    requires { ⌜ length (now s) < 4294967296 ⌝ }
     ensures { λ r. ⌜ Measures (body k (now (s .entry))) r ⌝ }
 {
     let last = utf8::last_len(s);
-    let mut i = 0;
-    let mut n = 0;
+    let end = s.len() - last;
+    let mut i = block_end(s, 0, k);
+    let mut n = i;
     loop {
-        let e = plain_end(s, i, k);
-        n += e - i;
-        let next = step_at(s, e, last, k);
-        match next {
-            Step::Piece(u, len) => {
-                n += escape::value_len(u);
-                i = e + len;
-            }
-            Step::Stop(why) => return Measured {
-                at: e,
+        if scan::byte_at(s, i) == b'"' {
+            return Measured {
+                at: i,
                 len: n,
-                end: why,
-            },
+                end: Ending::Close,
+            };
         }
+        let c = code_at(s, i, end, k);
+        if c != 0 {
+            n += escape::value_len(escape::code_value(c));
+            i += escape::code_len(c);
+            continue;
+        }
+        let e = plain_end(s, i, k);
+        if e == i {
+            return Measured {
+                at: i,
+                len: n,
+                end: ending_at(s, i, last, k),
+            };
+        }
+        n += e - i;
+        i = e;
     }
 }
 
 // What a quoted body stands for, up to its end, is written to the front of out.
 pub fn write_value(out: &mut [u8], s: &[u8], k: Allowed) -> usize
-    requires { ⌜ length (body k (now s) .value) ≤ length (now out) ⌝ }
+    requires { ⌜ (length (now s) < 4294967296) × (length (body k (now s) .value) ≤ length (now out)) ⌝ }
     ensures { λ r. ⌜ Wrote (body k (now (s .entry)) .value) r (now (out .entry)) (now (out .exit)) ⌝ }
 {
-    let last = utf8::last_len(s);
+    let end = s.len() - utf8::last_len(s);
     let mut i = 0;
     let mut at: usize = 0;
     loop {
-        let e = plain_end(s, i, k);
-        at += buffer::put_bytes(&mut out[at..], &s[i..e]);
-        let next = step_at(s, e, last, k);
-        match next {
-            Step::Piece(u, len) => {
-                at += escape::put_value(&mut out[at..], u);
-                i = e + len;
-            }
-            Step::Stop(_) => return at,
+        let c = code_at(s, i, end, k);
+        if c != 0 {
+            at += escape::put_value(&mut out[at..], escape::code_value(c));
+            i += escape::code_len(c);
+            continue;
         }
+        let e = plain_end(s, i, k);
+        if e == i {
+            return at;
+        }
+        at += buffer::put_bytes(&mut out[at..], &s[i..e]);
+        i = e;
     }
 }
 
@@ -284,22 +350,64 @@ fn raw_step(s: &[u8], i: usize, h: usize, k: Allowed) -> Step
     Step::Piece(Unescaped::Byte(b'"'), 1)
 }
 
+// Whether h hashes stand at an offset.
+fn has_hashes(s: &[u8], from: usize, h: usize) -> bool
+    requires { ⌜ from ≤ length (now s) ⌝ }
+    ensures { λ r. ⌜ r ≡ leb h (run (only 35) (drop from (now (s .entry)))) ⌝ }
+{
+    if s.len() - from < h {
+        return false;
+    }
+    let mut j = 0;
+    while j < h {
+        if s[from + j] != b'#' {
+            return false;
+        }
+        j += 1;
+    }
+    true
+}
+
+// Why a raw body ends where no piece is.
+fn raw_ending_at(s: &[u8], at: usize, h: usize, k: Allowed) -> Ending
+    requires { ⌜ Stopped (rawStepOf k h (drop at (now s))) ⌝ }
+    ensures { λ r. ⌜ stop (endOf r) ≡ rawStepOf k h (drop at (now (s .entry))) ⌝ }
+{
+    let next = raw_step(s, at, h, k);
+    // cannot arise: the step is none that goes on
+    let Step::Stop(why) = next else {
+        return Ending::Close;
+    };
+    why
+}
+
 // The body of a raw string with h hashes. It stands for its own bytes, so that its length is where it ends.
 pub fn measure_raw(s: &[u8], h: usize, k: Allowed) -> Measured
     ensures { λ r. ⌜ Measures (rawBody k h (now (s .entry))) r ⌝ }
 {
-    let mut i = 0;
+    let mut e = block_end(s, 0, k);
     loop {
-        let e = plain_end(s, i, k);
-        let next = raw_step(s, e, h, k);
-        match next {
-            Step::Piece(_, len) => i = e + len,
-            Step::Stop(why) => return Measured {
+        let b = scan::byte_at(s, e);
+        if b == b'"' {
+            let next = e + 1;
+            if has_hashes(s, next, h) {
+                return Measured {
+                    at: e,
+                    len: e,
+                    end: Ending::Close,
+                };
+            }
+            e = plain_end(s, next, k);
+            continue;
+        }
+        if b != b'\\' {
+            return Measured {
                 at: e,
                 len: e,
-                end: why,
-            },
+                end: raw_ending_at(s, e, h, k),
+            };
         }
+        e = plain_end(s, e + 1, k);
     }
 }
 
@@ -338,7 +446,7 @@ fn after_body(text: &[u8], hashes: Hashes, q: usize, offset: usize, m: Measured)
 
 // A text whose quoted body starts at an offset, behind the opening quote.
 pub fn unescape_string(text: &[u8], offset: usize, k: Allowed) -> Quoted
-    requires { ⌜ offset ≤ length (now text) ⌝ }
+    requires { ⌜ (offset ≤ length (now text)) × (length (now text) < 4294967296) ⌝ }
     ensures { λ r. ⌜ quoteOf r ≡ stringOf k offset (now (text .entry)) ⌝ }
 {
     let m = measure(&text[offset..], k);

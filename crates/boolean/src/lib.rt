@@ -4,18 +4,58 @@ use err::ParseErrorKind;
 use err::Reading;
 ghost use mathlib.Core.Path.{_≡_};
 ghost use Rattle.err.specs.Reading.{outcomeOf};
-ghost use Rattle.boolean.specs.Bool.{boolRead};
+ghost use Rattle.scan.specs.Same.{same};
+ghost use Rattle.boolean.specs.Bool.{trueText, falseText, boolRead};
+
+fn is_false(text: &[u8]) -> bool
+    ensures { λ r. ⌜ r ≡ same (now (text .entry)) falseText ⌝ }
+{
+    if text.len() != 5 {
+        return false;
+    }
+    if text[0] != b'f' {
+        return false;
+    }
+    if text[1] != b'a' {
+        return false;
+    }
+    if text[2] != b'l' {
+        return false;
+    }
+    if text[3] != b's' {
+        return false;
+    }
+    text[4] == b'e'
+}
+
+fn is_true(text: &[u8]) -> bool
+    ensures { λ r. ⌜ r ≡ same (now (text .entry)) trueText ⌝ }
+{
+    if text.len() != 4 {
+        return false;
+    }
+    if text[0] != b't' {
+        return false;
+    }
+    if text[1] != b'r' {
+        return false;
+    }
+    if text[2] != b'u' {
+        return false;
+    }
+    text[3] == b'e'
+}
 
 pub fn parse(text: &[u8]) -> Reading
     ensures { λ r. ⌜ outcomeOf r ≡ boolRead (now (text .entry)) ⌝ }
 {
-    if scan::is_same(text, b"false") {
+    if is_false(text) {
         return Reading::Bool(BoolLit {
             value: false,
             end: text.len(),
         });
     }
-    if scan::is_same(text, b"true") {
+    if is_true(text) {
         return Reading::Bool(BoolLit {
             value: true,
             end: text.len(),

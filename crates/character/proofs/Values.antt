@@ -15,8 +15,9 @@ use Rattle.escape.specs.declared.Unescaped.{Unescaped}
 use Rattle.escape.specs.declared.Unescaped.the-variants as unescaped
 use Rattle.escape.proofs.Values.{Unwraps, EscapeUnwraps, escape-unwraps}
 use Rattle.escape.proofs.Exact.{escaped}
-use Rattle.character.specs.Single.{allowedIn, scalarOf, charRead, byteRead}
+use Rattle.character.specs.Single.{allowedIn, scalarOf, charRead, byteRead, readBy, ValueFits}
 use Rattle.character.specs.Parts.{Content, char, byte, escape}
+use Rattle.character.specs.declared.Quote.{Quote}
 use Rattle.character.specs.declared.Quote.the-variants.{Char, Byte}
 use Rattle.character.proofs.Exact.{no-kind, char-sound, byte-sound}
 
@@ -55,3 +56,8 @@ byte-value s {v = v} e =
     let (w, k, is, t) = byte-sound s e in
     let same : v ≡ w = cc in
     rw same (of-byte (t .is))
+
+-- so it fits its kind
+pub value-fits : (q : Quote) (s : List ℕ) {k start v : ℕ} → readBy q s ≡ accepted k start (value v) → ValueFits q v
+value-fits Char s e = tt
+value-fits Byte s e = byte-value s e

@@ -1,7 +1,7 @@
 -- What litrs's `CharLit::parse` and `ByteLit::parse` answer (01, Quoted kinds), in their order of tests. The two differ in where the
 -- character starts, in what may stand there, and in three refusals.
 -- Assumes nothing.
-use Prim.Native.Nat.{ℕ, _+_}
+use Prim.Native.Nat.{ℕ, _+_, _≤_, _<_}
 use mathlib.Core.Bool.{Bool, true, false, cond, _||_, _&&_}
 use mathlib.Core.List.{List, [], _∷_}
 use lib.Dec.{eqb, ltb}
@@ -24,6 +24,8 @@ use Rattle.character.specs.declared.Quote.{Quote}
 use Rattle.character.specs.declared.Quote.the-variants.{Char, Byte}
 use Rattle.character.specs.declared.Single.{Single}
 use Rattle.character.specs.declared.Single.the-variants as single
+use Rattle.character.specs.declared.Inner.{Inner}
+use Rattle.character.specs.declared.Inner.the-variants as inner
 
 -- 01: char is kind 4, byte kind 6
 abbrev pub kindOf : Quote → ℕ
@@ -74,6 +76,16 @@ closedAt q s at v =
     (refused (unterminated q) none)
     (refused (overlong q) none))
 
+-- what stands between the quotes, at an offset: behind a value the literal closes, a refusal is the literal's
+abbrev pub innerOf : Quote → List ℕ → ℕ → Inner → Outcome
+innerOf q s at (inner.Value v n) = closedAt q s (at + n) v
+innerOf q s at (inner.Refused k p) = refused (numberOf k) (placeOf p)
+
+-- what is read there, if it is a value, ends in the text
+abbrev pub Inside : List ℕ → ℕ → Inner → Type 0
+Inside s at (inner.Value v n) = at + n ≤ length s
+Inside s at (inner.Refused k p) = Unit {0}
+
 -- the character at an offset, as RFC 3629 decodes it; in a UTF-8 text there is one unless the text ends there
 abbrev pub decodedAt : List ℕ → ℕ → Decoded → Outcome
 decodedAt s at (decoded.Char c n) = closedAt Char s (at + n) c
@@ -119,6 +131,16 @@ firstAt q s at =
 unfoldable pub singleAt : Quote → List ℕ → Outcome
 singleAt q s = cond (ltb (offsetOf q) (length s)) (firstAt q s (offsetOf q)) (refused (unterminated q) none)
 
+-- whether a text starts with `'` or `b'`
+abbrev pub opensBy : Quote → List ℕ → Bool
+opensBy Char s = eqb (getD s 0 0) 39
+opensBy Byte s = eqb (getD s 0 0) 98 && eqb (getD s 1 0) 39
+
+-- another start: DoesNotStartWithQuote, InvalidByteLiteralStart
+abbrev pub startFault : Quote → Outcome
+startFault Char = refused 28 (between 0 1)
+startFault Byte = refused 32 none
+
 -- of any text: no bytes are 1, another start is 28
 unfoldable pub charRead : List ℕ → Outcome
 charRead [] = refused 1 none
@@ -128,3 +150,13 @@ charRead (b ∷ s) = cond (eqb b 39) (singleAt Char (b ∷ s)) (refused 28 (betw
 unfoldable pub byteRead : List ℕ → Outcome
 byteRead [] = refused 1 none
 byteRead (b ∷ s) = cond (eqb b 98 && eqb (getD s 0 0) 39) (singleAt Byte (b ∷ s)) (refused 32 none)
+
+-- of any text, by the kind
+abbrev pub readBy : Quote → List ℕ → Outcome
+readBy Char s = charRead s
+readBy Byte s = byteRead s
+
+-- a byte literal's value is a byte
+abbrev pub ValueFits : Quote → ℕ → Type 0
+ValueFits Char v = Unit {0}
+ValueFits Byte v = v < 256

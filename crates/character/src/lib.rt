@@ -8,32 +8,36 @@ use escape::Allowed;
 use escape::Escape;
 use escape::Unescaped;
 use parse::Suffix;
-use scan::Byte;
-use scan::ByteSet;
 use utf8::Decoded;
 ghost use mathlib.Core.Path.{_≡_};
 ghost use Prim.Native.Nat.{_≤_, _<_};
 ghost use lib.ListN.{length};
+ghost use Rattle.err.specs.Outcome as outcome;
 ghost use Rattle.err.specs.Numbers.{numberOf};
 ghost use Rattle.err.specs.Reading.{outcomeOf};
 ghost use Rattle.character.specs.Single.{
+  kindOf,
   offsetOf,
   allowedIn,
   unterminated,
   overlong,
   empty,
-  scalarOf,
   singleOf,
   suffixedAt,
   closedAt,
+  innerOf,
+  Inside,
   plainAt,
+  scalarOf,
   escapedAt,
   special,
   quoteAt,
   firstAt,
   singleAt,
-  charRead,
-  byteRead,
+  opensBy,
+  startFault,
+  readBy,
+  ValueFits,
 };
 
 // Which of the two kinds.
@@ -96,6 +100,48 @@ impl Quote {
             Quote::Byte => ParseErrorKind::EmptyByteLiteral,
         }
     }
+
+    // Whether a text starts with the quote.
+    fn opens(self, text: &[u8]) -> bool
+        ensures { λ r. ⌜ r ≡ opensBy self (now (text .entry)) ⌝ }
+    {
+        match self {
+            Quote::Char => scan::byte_at(text, 0) == b'\'',
+            Quote::Byte => {
+                if scan::byte_at(text, 0) != b'b' {
+                    return false;
+                }
+                scan::byte_at(text, 1) == b'\''
+            }
+        }
+    }
+
+    // What another start is refused with.
+    fn refused_start(self) -> Reading
+        ensures { λ r. ⌜ outcomeOf r ≡ startFault self ⌝ }
+    {
+        match self {
+            Quote::Char => err::perr(ParseErrorKind::DoesNotStartWithQuote, 0, 1),
+            Quote::Byte => err::perr_nowhere(ParseErrorKind::InvalidByteLiteralStart),
+        }
+    }
+
+    // The reading of a literal of the kind.
+    fn reading(self, value: u32, start_suffix: usize) -> Reading
+        requires { ⌜ ValueFits self value ⌝ }
+        ensures { λ r. ⌜ outcomeOf r ≡ outcome.accepted (kindOf self) «start_suffix» (outcome.value value) ⌝ }
+    {
+        match self {
+            Quote::Char => Reading::Char(CharLit {
+                value,
+                start_suffix,
+            }),
+            Quote::Byte => Reading::Byte(ByteLit {
+                value: value as u8,
+                start_suffix,
+            }),
+        }
+    }
 }
 
 // The value and where the suffix starts, or why a text is no such literal.
@@ -125,41 +171,50 @@ fn closed(text: &[u8], at: usize, value: u32, q: Quote) -> Single
         return suffixed(text, at + 1, value, q);
     }
     let rest = &text[at..];
-    if scan::run_len(rest, ByteSet::Except(b'\'')) == rest.len() {
+    if scan::run_except(rest, b'\'') == rest.len() {
         return Single::Refused(q.unterminated(), Span::Nowhere);
     }
     Single::Refused(q.overlong(), Span::Nowhere)
 }
 
+// What stands between the quotes: its number and how many bytes it has, or the refusal.
+pub enum Inner {
+    Value(u32, usize),
+    Refused(ParseErrorKind, Span),
+}
+
 // A char that stands for itself.
-fn plain_char(text: &[u8], at: usize) -> Single
-    ensures { λ r. ⌜ singleOf Quote.Char r ≡ plainAt Quote.Char (now (text .entry)) at ⌝ }
+fn plain_char(text: &[u8], at: usize) -> Inner
+    ensures { λ r. ⌜ innerOf Quote.Char (now (text .entry)) at r ≡ plainAt Quote.Char (now (text .entry)) at ⌝ }
+    ensures { λ r. ⌜ Inside (now (text .entry)) at r ⌝ }
 {
     let found = utf8::decode_char(text, at);
     let Decoded::Char { scalar, len } = found else {
-        return Single::Refused(ParseErrorKind::UnterminatedCharLiteral, Span::Nowhere);
+        return Inner::Refused(ParseErrorKind::UnterminatedCharLiteral, Span::Nowhere);
     };
-    closed(text, at + len, scalar, Quote::Char)
+    Inner::Value(scalar, len)
 }
 
 // A byte that stands for itself.
-fn plain_byte(text: &[u8], at: usize) -> Single
+fn plain_byte(text: &[u8], at: usize) -> Inner
     requires { ⌜ at < length (now text) ⌝ }
-    ensures { λ r. ⌜ singleOf Quote.Byte r ≡ plainAt Quote.Byte (now (text .entry)) at ⌝ }
+    ensures { λ r. ⌜ innerOf Quote.Byte (now (text .entry)) at r ≡ plainAt Quote.Byte (now (text .entry)) at ⌝ }
+    ensures { λ r. ⌜ Inside (now (text .entry)) at r ⌝ }
 {
     let b = text[at];
     if b < 128 {
-        return closed(text, at + 1, b as u32, Quote::Byte);
+        return Inner::Value(b as u32, 1);
     }
-    Single::Refused(
+    Inner::Refused(
         ParseErrorKind::NonAsciiInByteLiteral,
         Span::Between(at, at + 1),
     )
 }
 
-fn plain(text: &[u8], at: usize, q: Quote) -> Single
+fn plain(text: &[u8], at: usize, q: Quote) -> Inner
     requires { ⌜ at < length (now text) ⌝ }
-    ensures { λ r. ⌜ singleOf q r ≡ plainAt q (now (text .entry)) at ⌝ }
+    ensures { λ r. ⌜ innerOf q (now (text .entry)) at r ≡ plainAt q (now (text .entry)) at ⌝ }
+    ensures { λ r. ⌜ Inside (now (text .entry)) at r ⌝ }
 {
     match q {
         Quote::Char => plain_char(text, at),
@@ -179,14 +234,15 @@ fn scalar(u: Unescaped) -> u32
 }
 
 // An escape, which sees the text to its end.
-fn escaped(text: &[u8], at: usize, q: Quote) -> Single
+fn escaped(text: &[u8], at: usize, q: Quote) -> Inner
     requires { ⌜ at < length (now text) ⌝ }
-    ensures { λ r. ⌜ singleOf q r ≡ escapedAt q (now (text .entry)) at ⌝ }
+    ensures { λ r. ⌜ innerOf q (now (text .entry)) at r ≡ escapedAt q (now (text .entry)) at ⌝ }
+    ensures { λ r. ⌜ Inside (now (text .entry)) at r ⌝ }
 {
     let found = escape::unescape(&text[at..], q.allowed());
     match found {
-        Escape::Value(u, n) => closed(text, at + n, scalar(u), q),
-        Escape::Bad(kind, span) => Single::Refused(kind, err::offset_span(span, at)),
+        Escape::Value(u, n) => Inner::Value(scalar(u), n),
+        Escape::Bad(kind, span) => Inner::Refused(kind, err::offset_span(span, at)),
     }
 }
 
@@ -204,16 +260,17 @@ fn is_special(b: u8) -> bool
 }
 
 // The first byte between the quotes.
-fn first(text: &[u8], at: usize, q: Quote) -> Single
+fn first(text: &[u8], at: usize, q: Quote) -> Inner
     requires { ⌜ at < length (now text) ⌝ }
-    ensures { λ r. ⌜ singleOf q r ≡ firstAt q (now (text .entry)) at ⌝ }
+    ensures { λ r. ⌜ innerOf q (now (text .entry)) at r ≡ firstAt q (now (text .entry)) at ⌝ }
+    ensures { λ r. ⌜ Inside (now (text .entry)) at r ⌝ }
 {
     let b = text[at];
     if b == b'\'' {
         return quote_first(text, at, q);
     }
     if is_special(b) {
-        return Single::Refused(
+        return Inner::Refused(
             ParseErrorKind::UnescapedSpecialWhitespace,
             Span::Between(at, at + 1),
         );
@@ -225,17 +282,18 @@ fn first(text: &[u8], at: usize, q: Quote) -> Single
 }
 
 // A quote at once: another behind it is one that was not escaped.
-fn quote_first(text: &[u8], at: usize, q: Quote) -> Single
+fn quote_first(text: &[u8], at: usize, q: Quote) -> Inner
     requires { ⌜ at < length (now text) ⌝ }
-    ensures { λ r. ⌜ singleOf q r ≡ quoteAt q (now (text .entry)) at ⌝ }
+    ensures { λ r. ⌜ innerOf q (now (text .entry)) at r ≡ quoteAt q (now (text .entry)) at ⌝ }
+    ensures { λ r. ⌜ Inside (now (text .entry)) at r ⌝ }
 {
     if scan::byte_at(text, at + 1) == b'\'' {
-        return Single::Refused(
+        return Inner::Refused(
             ParseErrorKind::UnescapedSingleQuote,
             Span::Between(at, at + 1),
         );
     }
-    Single::Refused(q.empty(), Span::Nowhere)
+    Inner::Refused(q.empty(), Span::Nowhere)
 }
 
 // Of a text that starts with the quote.
@@ -243,50 +301,28 @@ fn parse_impl(text: &[u8], q: Quote) -> Single
     ensures { λ r. ⌜ singleOf q r ≡ singleAt q (now (text .entry)) ⌝ }
 {
     let at = q.offset();
-    if at < text.len() {
-        return first(text, at, q);
+    if text.len() <= at {
+        return Single::Refused(q.unterminated(), Span::Nowhere);
     }
-    Single::Refused(q.unterminated(), Span::Nowhere)
-}
-
-pub fn parse_char(text: &[u8]) -> Reading
-    ensures { λ r. ⌜ outcomeOf r ≡ charRead (now (text .entry)) ⌝ }
-{
-    let found = scan::get(text, 0);
-    let Byte::At(b) = found else {
-        return err::perr_nowhere(ParseErrorKind::Empty);
-    };
-    if b != b'\'' {
-        return err::perr(ParseErrorKind::DoesNotStartWithQuote, 0, 1);
-    }
-    let lit = parse_impl(text, Quote::Char);
-    match lit {
-        Single::Value(value, start_suffix) => Reading::Char(CharLit {
-            value,
-            start_suffix,
-        }),
-        Single::Refused(kind, span) => Reading::Refused(kind, span),
+    let content = first(text, at, q);
+    match content {
+        Inner::Value(value, n) => closed(text, at + n, value, q),
+        Inner::Refused(kind, span) => Single::Refused(kind, span),
     }
 }
 
-pub fn parse_byte(text: &[u8]) -> Reading
-    ensures { λ r. ⌜ outcomeOf r ≡ byteRead (now (text .entry)) ⌝ }
+pub fn parse(text: &[u8], q: Quote) -> Reading
+    ensures { λ r. ⌜ outcomeOf r ≡ readBy q (now (text .entry)) ⌝ }
 {
     if text.len() == 0 {
         return err::perr_nowhere(ParseErrorKind::Empty);
     }
-    if scan::byte_at(text, 0) != b'b' {
-        return err::perr_nowhere(ParseErrorKind::InvalidByteLiteralStart);
+    if !q.opens(text) {
+        return q.refused_start();
     }
-    if scan::byte_at(text, 1) != b'\'' {
-        return err::perr_nowhere(ParseErrorKind::InvalidByteLiteralStart);
-    }
-    let lit = parse_impl(text, Quote::Byte);
+    let lit = parse_impl(text, q);
     match lit {
-        Single::Value(value, start_suffix) => Reading::Byte(ByteLit {
-            value: value as u8,
-            start_suffix,
-        }),
+        Single::Value(value, start) => q.reading(value, start),
         Single::Refused(kind, span) => Reading::Refused(kind, span),
     }
 }

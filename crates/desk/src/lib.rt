@@ -1,5 +1,7 @@
 // The entries for C (include/keybasket.h): numbers and byte slices only. None has a `requires`: any code and any bytes may be handed in.
+use err::FloatLit;
 use err::Hashes;
+use err::IntegerLit;
 use err::ParseErrorKind;
 use err::Reading;
 use err::Span;
@@ -103,39 +105,31 @@ fn string_numbers(kind: u64, lit: StringLit) -> [u64; 5]
     }
 }
 
-fn reading_numbers(found: Reading) -> [u64; 5]
-    ensures { λ r. ⌜ r ≡ readingNumbers (outcomeOf found) ⌝ }
-{
-    match found {
-        Reading::Refused(kind, span) => span_numbers(err::number(kind) as u64, span),
-        Reading::Bool(l) => [1, l.end as u64, truth(l.value), 0, 0],
-        Reading::Integer(l) => {
-            let base = l.base;
-            let end = l.end_main_part as u64;
-            [2, end, base.value() as u64, l.start_main_part as u64, end]
-        }
-        Reading::Float(l) => {
-            let end = l.end_number_part as u64;
-            [
-                3,
-                end,
-                l.end_integer_part as u64,
-                l.end_fractional_part as u64,
-                end,
-            ]
-        }
-        Reading::Char(l) => [4, l.start_suffix as u64, l.value as u64, 0, 0],
-        Reading::String(l) => string_numbers(5, l),
-        Reading::Byte(l) => [6, l.start_suffix as u64, l.value as u64, 0, 0],
-        Reading::ByteString(l) => string_numbers(7, l),
-        Reading::CString(l) => string_numbers(8, l),
-    }
-}
-
 fn truth(value: bool) -> u64
     ensures { λ r. ⌜ r ≡ truthNumber value ⌝ }
 {
     if value { 1 } else { 0 }
+}
+
+fn integer_numbers(lit: IntegerLit) -> [u64; 5]
+    ensures { λ r. ⌜ r ≡ readingNumbers (outcomeOf (Reading.Integer lit)) ⌝ }
+{
+    let base = lit.base;
+    let end = lit.end_main_part as u64;
+    [2, end, base.value() as u64, lit.start_main_part as u64, end]
+}
+
+fn float_numbers(lit: FloatLit) -> [u64; 5]
+    ensures { λ r. ⌜ r ≡ readingNumbers (outcomeOf (Reading.Float lit)) ⌝ }
+{
+    let end = lit.end_number_part as u64;
+    [
+        3,
+        end,
+        lit.end_integer_part as u64,
+        lit.end_fractional_part as u64,
+        end,
+    ]
 }
 
 // The reading of a text by entry code, as five numbers: kind, start of suffix and values; or 0, the refusal number and the span.
@@ -145,6 +139,15 @@ pub extern "C" fn keybasket_read(entry: u64, text: &[u8], answer: &mut [u64; 5])
     ensures { λ r. ⌜ now (text .exit) ≡ now (text .entry) ⌝ }
 {
     let found = literal::read(entry, text);
-    let numbers = reading_numbers(found);
-    *answer = numbers;
+    match found {
+        Reading::Refused(kind, span) => *answer = span_numbers(err::number(kind) as u64, span),
+        Reading::Bool(l) => *answer = [1, l.end as u64, truth(l.value), 0, 0],
+        Reading::Integer(l) => *answer = integer_numbers(l),
+        Reading::Float(l) => *answer = float_numbers(l),
+        Reading::Char(l) => *answer = [4, l.start_suffix as u64, l.value as u64, 0, 0],
+        Reading::String(l) => *answer = string_numbers(5, l),
+        Reading::Byte(l) => *answer = [6, l.start_suffix as u64, l.value as u64, 0, 0],
+        Reading::ByteString(l) => *answer = string_numbers(7, l),
+        Reading::CString(l) => *answer = string_numbers(8, l),
+    }
 }

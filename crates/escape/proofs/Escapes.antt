@@ -5,7 +5,7 @@ use mathlib.Core.Bool.{true, false, and-false}
 use mathlib.Core.List.{List, [], _∷_}
 use Prim.Native.Nat.{ℕ, _+_, _*_, _≤_, _<_}
 use native.Mathlib.Omega.{arith}
-use borrow.Author.Tests.{lt-ltb, le-ltb, eq-eqb, ne-eqb}
+use borrow.Author.Tests.{lt-ltb, le-ltb, le-leb, eq-eqb, ne-eqb}
 use lib.Dec.{eqb}
 use lib.ListN.{length, getD, take, drop}
 use Rattle.err.specs.Outcome.{between}
@@ -25,6 +25,10 @@ module _ (k : Allowed) (s : List ℕ) where
   pub x-cut : isBoundary s 4 ≡ false → bad 9 (between 0 (length s)) ≡ xEscape k s
   unfolding xEscape
   x-cut e = rw e
+
+  pub x-short : length s < 4 → bad 9 (between 0 (length s)) ≡ xEscape k s
+  unfolding isBoundary
+  x-short h = x-cut (rw (le-leb (length s) 4 (omega arith), ne-eqb (length s) 4 (λ e. omega arith)))
 
   module _ (there : isBoundary s 4 ≡ true) where
     pub x-first : hexDigitOf (getD s 2 0) ≡ NotHex → bad 10 (between 0 4) ≡ xEscape k s

@@ -23,7 +23,7 @@ use Rattle.escape.specs.Pieces.{Hexes, one, more, Esc, letter, nul, hex,
 use Rattle.escape.specs.declared.Allowed.{Allowed}
 use Rattle.escape.specs.declared.Unescaped.{Unescaped}
 use Rattle.escape.specs.declared.Unescaped.the-variants.{Byte, Unicode}
-use Rattle.escape.proofs.Hexes.{hex-value}
+use Rattle.escape.proofs.Hexes.{hex-value, not-underscore, not-brace}
 use Rattle.escape.proofs.Escapes as laws
 use Rattle.escape.proofs.Within.{boundary-in}
 
@@ -34,18 +34,6 @@ skip : (i n v : ℕ) (us r : List ℕ) → All (only 95) us → hexFrom i n v (u
 unfolding only
 skip i n v [] r h = rw add-zero
 skip i n v (b ∷ us) r h = rw (h .0) (skip (i + 1) n v us r (h .1) ∙ ap (λ (j : ℕ). hexFrom j n v r) (omega arith))
-
--- a hex digit is no `_` and no brace
-no-digit : (x : ℕ) → 16 ≤ classOf x → (b : ℕ) → classOf b < 16 → b ≡ x → ⊥
-no-digit x g b h e = let z : classOf x < 16 = rw e at h in omega arith
-
-not-underscore : (b : ℕ) → classOf b < 16 → b ≡ 95 → ⊥
-unfolding classOf
-not-underscore b h e = no-digit 95 (omega arith) b h e
-
-not-brace : (b : ℕ) → classOf b < 16 → b ≡ 125 → ⊥
-unfolding classOf
-not-brace b h e = no-digit 125 (omega arith) b h e
 
 -- a digit and its underscores
 group : (i n v b : ℕ) (us r : List ℕ) → classOf b < 16 → (n ≡ 6 → ⊥) → All (only 95) us

@@ -28,12 +28,28 @@ pub hex-value : (b : ℕ) → classOf b < 16 → hexDigitOf b ≡ Value (classOf
 unfolding hexDigitOf
 hex-value b h = rw (lt-ltb (classOf b) 16 h)
 
+pub no-value : (b : ℕ) → 16 ≤ classOf b → hexDigitOf b ≡ NotHex
+unfolding hexDigitOf
+no-value b h = rw (le-ltb (classOf b) 16 h)
+
 pub not-hex : (b : ℕ) → hexDigitOf b ≡ NotHex → ltb (classOf b) 16 ≡ false
 unfolding hexDigitOf
 not-hex b =
     cond-lt (λ (h : HexDigit). h ≡ NotHex → ltb (classOf b) 16 ≡ false) (classOf b) 16
     (λ l e. let z : _≡_ {A = ℕ} 0 1 = cc in absurd (omega arith))
     (λ l e. le-ltb (classOf b) 16 l)
+
+-- a hex digit is no `_` and no brace
+other : (x : ℕ) → 16 ≤ classOf x → (b : ℕ) → classOf b < 16 → b ≡ x → ⊥
+other x g b h e = let z : classOf x < 16 = rw e at h in omega arith
+
+pub not-underscore : (b : ℕ) → classOf b < 16 → b ≡ 95 → ⊥
+unfolding classOf
+not-underscore b h e = other 95 (omega arith) b h e
+
+pub not-brace : (b : ℕ) → classOf b < 16 → b ≡ 125 → ⊥
+unfolding classOf
+not-brace b h e = other 125 (omega arith) b h e
 
 -- ---- the scan at offset i of d, behind n digits worth v
 

@@ -19,9 +19,10 @@ use Rattle.parse.specs.Class.{classOf}
 use Rattle.parse.specs.Sets.{digit, decDigit, startsE}
 use Rattle.parse.specs.Suffix.{suffixFault}
 use Rattle.parse.proofs.Classes.{either, digit-ten-cases, dec-digit-ends}
+use Rattle.parse.proofs.Numbers.{e-behind}
 use Rattle.float.specs.Float.{badFraction, afterFraction, afterInteger, floatRead}
 use Rattle.float.specs.Parts.{Exponent, no-exponent, exponent, Fraction, no-fraction, fraction, FloatParts}
-use Rattle.float.proofs.Steps.{isSign, byte-from, e-from, behind, exponent-from, fraction-from, no-fraction-from, number-from}
+use Rattle.float.proofs.Steps.{isSign, byte-from, behind, exponent-from, fraction-from, no-fraction-from, number-from}
 
 -- ---- what cannot be taken for something else
 
@@ -54,7 +55,7 @@ unfolding afterFraction startsE
 rest-complete s i f ex suf h (no-exponent e) o l n m =
     let z : f + length ex ≡ f = omega (arith, ap length e) in
     let w : drop f s ≡ suf = h ∙ rw e in
-    rw (e-from s f suf w, n e, z) (number-from s i f f (rw w o) (rw z at m))
+    rw (← e-behind s f, w, n e, z) (number-from s i f f (rw w o) (rw z at m))
 rest-complete s i f ex suf h (exponent letter sign ds e t g d some) o l n m =
     let w : drop f s ≡ letter ∷ (sign ++ (ds ++ suf)) = h ∙ rw (e, append-assoc) in
     let q = ap length e in

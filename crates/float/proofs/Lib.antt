@@ -1,6 +1,7 @@
 pub mod Examples
 pub mod Inside
 pub mod Start
+pub mod Ends
 pub mod Steps
 pub mod Sound
 pub mod Complete

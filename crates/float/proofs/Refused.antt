@@ -11,22 +11,22 @@ use lib.Dec.{eqb, ltb}
 use lib.ListN.{length, getD, drop}
 use Rattle.err.specs.Outcome.{Place, Outcome, refused, accepted, RefusedIn}
 use Rattle.scan.specs.Run.{run}
+use Rattle.scan.proofs.Bytes.{byte-inside}
 use Rattle.scan.proofs.Cases.{cond-in, cond-eq}
 use Rattle.scan.proofs.Runs.{run-le}
 use Rattle.parse.specs.Sets.{digit, decDigit, startsE}
 use Rattle.parse.specs.Suffix.{suffixFault}
 use Rattle.parse.proofs.Classes.{both, either}
-use Rattle.parse.proofs.Suffixes.{fault-cases}
+use Rattle.parse.proofs.Numbers.{e-inside}
+use Rattle.parse.proofs.Suffixes.{fault-small}
 use Rattle.float.specs.Float.{digitsEnd, notInteger, afterNumber, signEnd, noDigit, afterFraction, badFraction, afterInteger, floatRead}
-use Rattle.float.proofs.Inside.{byte-inside, e-inside, digits-inside}
+use Rattle.float.proofs.Inside.{digits-inside}
+use Rattle.float.proofs.Ends.{sign-behind}
 
 -- what a refusal of a text of m bytes says
 abbrev Told : ℕ → Outcome → Type 0
 Told m (refused n p) = RefusedIn m n p
 Told m (accepted k e vs) = Unit {0}
-
-fault-small : (s : List ℕ) → suffixFault s ≤ 41
-fault-small s = ⊎-elim (λ e. omega arith) (⊎-elim (λ e. omega arith) (λ e. omega arith)) (fault-cases s)
 
 module _ (s : List ℕ) where
   number : (i f e : ℕ) → e ≤ length s → Told (length s) (afterNumber s i f e)
@@ -37,12 +37,12 @@ module _ (s : List ℕ) where
       (λ z. let l = fault-small (drop e s) in omega arith)
 
   -- a sign stands inside the text, behind an `e` that does
-  sign-inside : (f : ℕ) → startsE s f ≡ true → (f ≤ signEnd s f) × (signEnd s f ≤ length s)
+  sign-inside : (f : ℕ) → startsE s f ≡ true → signEnd s f ≤ length s
   unfolding signEnd
   sign-inside f t =
       let l = e-inside s f t in
       let b = getD s (f + 1) 0 in
-      cond-in (λ (n : ℕ). (f ≤ n) × (n ≤ length s)) (eqb b 45 || eqb b 43)
+      cond-in (λ (n : ℕ). n ≤ length s) (eqb b 45 || eqb b 43)
       (λ e.
       let g = ⊎-elim (λ y. byte-inside s (f + 1) 45 (eqb-true b 45 y) (omega arith)) (λ y. byte-inside s (f + 1) 43 (eqb-true b 43 y) (omega arith))
       (either (eqb b 45) (eqb b 43) e) in
@@ -54,9 +54,8 @@ module _ (s : List ℕ) where
   behind-fraction i f h =
       cond-in (Told (length s)) (startsE s f)
       (λ t.
-      let g = sign-inside f t in
-      let d = digits-inside s (signEnd s f) (g .1) in
-      cond-in (Told (length s)) (noDigit s (signEnd s f) (digitsEnd s (signEnd s f))) (λ y. omega arith)
+      let d = digits-inside s (signEnd s f) (sign-inside f t) in
+      cond-in (Told (length s)) (noDigit s (signEnd s f) (digitsEnd s (signEnd s f))) (λ y. omega (arith, sign-behind s f))
       (λ y. number i f (digitsEnd s (signEnd s f)) d))
       (λ t. number i f f h)
 

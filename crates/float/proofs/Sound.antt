@@ -13,15 +13,16 @@ use borrow.Author.Tests.{eq-eqb, eqb-true, eqb-false, ltb-false}
 use Rattle.err.specs.Outcome.{Place, Values, refused, accepted, ends}
 use Rattle.scan.specs.Run.{run, All, Stops}
 use Rattle.scan.specs.Sets.{only}
+use Rattle.scan.proofs.Bytes.{byte-inside}
 use Rattle.scan.proofs.Cases.{cond-in, cond-eq, clash}
 use Rattle.scan.proofs.Runs.{run-le, run-all, run-stops, run-split}
 use Rattle.parse.specs.Sets.{digit, decDigit, startsE}
 use Rattle.parse.specs.Suffix.{suffixFault}
 use Rattle.parse.proofs.Classes.{digit-decimal}
+use Rattle.parse.proofs.Numbers.{e-inside, e-behind}
 use Rattle.float.specs.Float.{notInteger, afterNumber, afterFraction, badFraction, afterInteger, floatRead}
 use Rattle.float.specs.Parts.{Sign, unsigned, plus, minus, Exponent, no-exponent, exponent, Fraction, no-fraction, fraction, Tiled}
-use Rattle.float.proofs.Inside.{e-inside, byte-inside}
-use Rattle.float.proofs.Steps.{isSign, byte-from, e-from, behind, exponent-from, fraction-from, no-fraction-from}
+use Rattle.float.proofs.Steps.{isSign, byte-from, behind, exponent-from, fraction-from, no-fraction-from}
 
 -- a sign or none at the front
 signed : (t : List ℕ) → (sign : List ℕ) × (u : List ℕ) × (t ≡ sign ++ u) × Sign sign × (sign ≡ [] → isSign (getD u 0 0) ≡ false)
@@ -75,7 +76,7 @@ module _ (k p : ℕ) (v : Values) where
             exponent = no-exponent refl;
             suffix = n .0;
             longest = l;
-            no-e = λ e. sym (e-from s f _ refl) ∙ t;
+            no-e = λ e. e-behind s f ∙ t;
             more = rw add-zero (n .1);
             is = rw add-zero (n .2);
           }

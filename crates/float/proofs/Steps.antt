@@ -16,6 +16,7 @@ use Rattle.scan.specs.Sets.{only}
 use Rattle.scan.proofs.Runs.{run-is}
 use Rattle.parse.specs.Sets.{digit, startsE}
 use Rattle.parse.specs.Suffix.{suffixFault}
+use Rattle.parse.proofs.Numbers.{e-behind}
 use Rattle.float.specs.Float.{digitsEnd, notInteger, afterNumber, signEnd, noDigit, afterFraction, badFraction, afterInteger}
 use Rattle.float.specs.Parts.{Sign, unsigned, plus, minus}
 
@@ -24,10 +25,6 @@ byte-from s at r h = rw (← h, getD-drop, add-zero)
 
 pub behind : (s : List ℕ) (at : ℕ) (a r : List ℕ) → drop at s ≡ a ++ r → drop (at + length a) s ≡ r
 behind s at a r h = rw (← drop-drop, h, drop-append-seam)
-
-pub e-from : (s : List ℕ) (at : ℕ) (r : List ℕ) → drop at s ≡ r → startsE s at ≡ startsE r 0
-unfolding startsE
-e-from s at r h = rw (byte-from s at r h)
 
 pub digits-from : (s : List ℕ) (at : ℕ) (a r : List ℕ) → drop at s ≡ a ++ r → All (digit 10) a → Stops (digit 10) r → digitsEnd s at ≡ at + length a
 digits-from s at a r h d e = rw (h, run-is (digit 10) a r d e)
@@ -56,7 +53,7 @@ exponent-from s i f letter sign ds suf h t g n d l =
     let h1 : drop (f + 1) s ≡ sign ++ (ds ++ suf) = behind s f (letter ∷ []) (sign ++ (ds ++ suf)) h in
     let h2 : drop (f + 1 + length sign) s ≡ ds ++ suf = behind s (f + 1) sign (ds ++ suf) h1 in
     let q : f + 1 + length sign + length ds ≡ f + length (letter ∷ (sign ++ ds)) = omega (arith, length-append sign ds) in
-    rw (e-from s f _ h, t, sign-from s f sign (ds ++ suf) h1 g n, digits-from s (f + 1 + length sign) ds suf h2 d l, no-digit-from s (f + 1 + length sign) ds suf h2, q)
+    rw (← e-behind s f, h, t, sign-from s f sign (ds ++ suf) h1 g n, digits-from s (f + 1 + length sign) ds suf h2 d l, no-digit-from s (f + 1 + length sign) ds suf h2, q)
 
 -- ---- the fraction
 

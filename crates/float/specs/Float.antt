@@ -37,6 +37,10 @@ signEnd s at = cond (eqb (getD s (at + 1) 0) 45 || eqb (getD s (at + 1) 0) 43) (
 unfoldable pub noDigit : List ℕ → ℕ → ℕ → Bool
 noDigit s from end = eqb (run (only 95) (take (end - from) (drop from s))) (end - from)
 
+-- where the exponent of a fraction that ends at an offset ends: there, where no `e` follows, or behind the exponent's digits
+unfoldable pub exponentEnd : List ℕ → ℕ → ℕ
+exponentEnd s f = cond (startsE s f) (digitsEnd s (signEnd s f)) f
+
 -- behind the fraction: an exponent without a digit is 7
 unfoldable pub afterFraction : List ℕ → ℕ → ℕ → Outcome
 afterFraction s i f =
@@ -49,6 +53,10 @@ afterFraction s i f =
 -- "Fraction not starting with `_`; a bare period ends the text": of digits from one offset, behind the period, to another
 unfoldable pub badFraction : List ℕ → ℕ → ℕ → Bool
 badFraction s from end = eqb (getD s from 0) 95 || (eqb end from && ltb from (length s))
+
+-- where the fraction of an integer part that ends at an offset ends: there, where no period follows, or behind the period's digits
+unfoldable pub fractionEnd : List ℕ → ℕ → ℕ
+fractionEnd s i = cond (eqb (getD s i 0) 46) (digitsEnd s (i + 1)) i
 
 -- behind the integer part: a period and what may not follow it are 2, where that stands
 unfoldable pub afterInteger : List ℕ → ℕ → Outcome

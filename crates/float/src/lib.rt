@@ -10,7 +10,7 @@ ghost use mathlib.Core.Path.{_≡_};
 ghost use Prim.Native.Nat.{_≤_, _<_};
 ghost use lib.ListN.{length};
 ghost use Rattle.err.specs.Reading.{outcomeOf};
-ghost use Rattle.float.specs.Float.{parsedOf, notInteger, badFraction, signEnd, noDigit, afterNumber, afterFraction, afterInteger, floatRead};
+ghost use Rattle.float.specs.Float.{parsedOf, notInteger, badFraction, signEnd, noDigit, fractionEnd, exponentEnd, afterNumber, afterInteger, floatRead};
 
 // A float literal, or why a text is none.
 pub enum Parsed {
@@ -65,36 +65,6 @@ fn no_digit(text: &[u8], from: usize, end: usize) -> bool
     scan::run_len(&text[from..end], ByteSet::Only(b'_')) == end - from
 }
 
-// Behind the fraction: an exponent or none.
-fn after_fraction(text: &[u8], i: usize, f: usize) -> Parsed
-    requires { ⌜ f ≤ length (now text) ⌝ }
-    ensures { λ r. ⌜ parsedOf r ≡ afterFraction (now (text .entry)) i f ⌝ }
-{
-    if !parse::has_e(text, f) {
-        return after_number(
-            text,
-            FloatLit {
-                end_integer_part: i,
-                end_fractional_part: f,
-                end_number_part: f,
-            },
-        );
-    }
-    let from = sign_end(text, f);
-    let end = from + parse::end_dec_digits(&text[from..]);
-    if no_digit(text, from, end) {
-        return Parsed::Refused(ParseErrorKind::NoExponentDigits, Span::Between(f, end));
-    }
-    after_number(
-        text,
-        FloatLit {
-            end_integer_part: i,
-            end_fractional_part: f,
-            end_number_part: end,
-        },
-    )
-}
-
 // Whether what stands behind the period may not: `_`, or, where no digit follows, anything.
 fn bad_fraction(text: &[u8], from: usize, end: usize) -> bool
     ensures { λ r. ⌜ r ≡ badFraction (now (text .entry)) from end ⌝ }
@@ -108,23 +78,59 @@ fn bad_fraction(text: &[u8], from: usize, end: usize) -> bool
     from < text.len()
 }
 
-// Behind the integer part: a fraction or none.
+// Where the fraction ends: behind the period and its digits, if there is a period.
+fn fraction_end(text: &[u8], i: usize) -> usize
+    requires { ⌜ i ≤ length (now text) ⌝ }
+    ensures { λ r. ⌜ (r ≡ fractionEnd (now (text .entry)) i) × (r ≤ length (now (text .entry))) ⌝ }
+{
+    if scan::byte_at(text, i) != b'.' {
+        return i;
+    }
+    let from = i + 1;
+    from + parse::end_dec_digits(&text[from..])
+}
+
+// Where the exponent ends: behind `e`, its sign and its digits, if there is an `e`.
+fn exponent_end(text: &[u8], f: usize) -> usize
+    requires { ⌜ f ≤ length (now text) ⌝ }
+    ensures { λ r. ⌜ (r ≡ exponentEnd (now (text .entry)) f) × (r ≤ length (now (text .entry))) ⌝ }
+{
+    if !parse::has_e(text, f) {
+        return f;
+    }
+    let from = sign_end(text, f);
+    from + parse::end_dec_digits(&text[from..])
+}
+
+// Behind the integer part: fraction, exponent and suffix.
 fn after_integer(text: &[u8], i: usize) -> Parsed
     requires { ⌜ i ≤ length (now text) ⌝ }
     ensures { λ r. ⌜ parsedOf r ≡ afterInteger (now (text .entry)) i ⌝ }
 {
-    if scan::byte_at(text, i) != b'.' {
-        return after_fraction(text, i, i);
+    let f = fraction_end(text, i);
+    if i < f {
+        let from = i + 1;
+        if bad_fraction(text, from, f) {
+            return Parsed::Refused(
+                ParseErrorKind::UnexpectedChar,
+                Span::Between(from, from + 1),
+            );
+        }
     }
-    let from = i + 1;
-    let end = from + parse::end_dec_digits(&text[from..]);
-    if bad_fraction(text, from, end) {
-        return Parsed::Refused(
-            ParseErrorKind::UnexpectedChar,
-            Span::Between(from, from + 1),
-        );
+    let end = exponent_end(text, f);
+    if f < end {
+        if no_digit(text, sign_end(text, f), end) {
+            return Parsed::Refused(ParseErrorKind::NoExponentDigits, Span::Between(f, end));
+        }
     }
-    after_fraction(text, i, end)
+    after_number(
+        text,
+        FloatLit {
+            end_integer_part: i,
+            end_fractional_part: f,
+            end_number_part: end,
+        },
+    )
 }
 
 // The float literal that a text is, or why it is none.

@@ -1,9 +1,9 @@
--- The base of a text by its first two bytes, and the length of a base's prefix.
+-- The base of a text by its first two bytes, the ends of the bases, and the length of a base's prefix.
 -- Assumes nothing.
 use mathlib.Core.Path.{_≡_, refl}
 use mathlib.Core.Bool.{cond}
 use mathlib.Core.List.{List, [], _∷_}
-use Prim.Native.Nat.{ℕ, _<_}
+use Prim.Native.Nat.{ℕ, _≤_, _<_}
 use native.Mathlib.Omega.{arith}
 use borrow.Author.Tests.{eq-eqb, ne-eqb}
 use lib.Dec.{eqb}
@@ -28,6 +28,12 @@ base-other s h = rw (ne-eqb _ _ h)
 pub base-by : (s : List ℕ) → getD s 0 0 ≡ 48 → baseAt s ≡ cond (eqb (getD s 1 0) 98) 2 (cond (eqb (getD s 1 0) 111) 8 (cond (eqb (getD s 1 0) 120) 16 10))
 unfolding baseAt
 base-by s h = rw (eq-eqb _ _ h)
+
+pub base-ends : (b : IntegerBase) → (0 < baseOf b) × (baseOf b ≤ 16)
+base-ends Binary = (omega arith, omega arith)
+base-ends Octal = (omega arith, omega arith)
+base-ends Decimal = (omega arith, omega arith)
+base-ends Hexadecimal = (omega arith, omega arith)
 
 pub prefix-len : (b : IntegerBase) → length (prefixOf b) ≡ prefixLen (baseOf b)
 unfolding prefixLen

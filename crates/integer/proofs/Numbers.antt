@@ -11,9 +11,6 @@ use borrow.Author.Tests.{ltb-true, le-leb, lt-leb, eq-eqb, ne-eqb}
 use lib.Dec.{eqb}
 use lib.ListN.{length, getD, drop, drop-of-length-le}
 use lib.Seq.{drop-cons}
-use Rattle.err.specs.Reading.{baseOf}
-use Rattle.err.specs.declared.IntegerBase.{IntegerBase}
-use Rattle.err.specs.declared.IntegerBase.the-variants.{Binary, Octal, Decimal, Hexadecimal}
 use Rattle.scan.specs.Run.{All}
 use Rattle.scan.proofs.Cases.{cond-in}
 use Rattle.parse.specs.Class.{classOf}
@@ -21,12 +18,6 @@ use Rattle.parse.specs.Sets.{decDigit}
 use Rattle.parse.proofs.Classes.{class-decimal, dec-digit-ends}
 use Rattle.integer.specs.declared.Within.the-variants.{Number, Over}
 use Rattle.integer.specs.Value.{numberFrom, number, within}
-
-pub base-positive : (b : IntegerBase) → 0 < baseOf b
-base-positive Binary = omega arith
-base-positive Octal = omega arith
-base-positive Decimal = omega arith
-base-positive Hexadecimal = omega arith
 
 -- ---- byte by byte
 

@@ -4,19 +4,19 @@ use mathlib.Core.Path.{_≡_, refl, sym, _∙_}
 use mathlib.Core.Bool.{true, false}
 use mathlib.Core.Logic.{inl, inr}
 use mathlib.Core.List.{List, [], _∷_, _++_}
-use Prim.Native.Nat.{ℕ, _+_, _<_}
+use Prim.Native.Nat.{ℕ, _<_}
 use native.Mathlib.Nat.{zero-add}
 use native.Mathlib.Omega.{arith}
 use borrow.Author.Tests.{ne-eqb}
 use lib.Dec.{eqb}
 use lib.ListN.{length, getD}
 use Rattle.err.specs.Outcome.{accepted, digits}
-use Rattle.scan.specs.Run.{run, All, Stops}
-use Rattle.scan.specs.Sets.{only}
+use Rattle.scan.specs.Run.{All, Stops}
 use Rattle.scan.proofs.Cases.{cond-in, clash}
 use Rattle.parse.specs.Sets.{digit, decDigit, startsE}
 use Rattle.parse.specs.Suffix.{suffixStart}
-use Rattle.parse.proofs.Classes.{dec-digit-ends, digit-decimal, digit-underscore, start-digit}
+use Rattle.parse.proofs.Classes.{dec-digit-ends, digit-underscore, start-digit}
+use Rattle.parse.proofs.Numbers.{plain-digits, plain-first, plain-some}
 use Rattle.parse.proofs.Suffixes.{good-start}
 use Rattle.integer.specs.Integer.{baseAt, integerRead}
 use Rattle.integer.specs.Parts.{dec, IntegerParts, Unprefixed}
@@ -38,10 +38,6 @@ suffix-start {base} {b} {pre} {main} {suf} h =
 
 -- ---- other digits
 
-all-digits : (d : List ℕ) → All decDigit d → All (digit 10) d
-all-digits [] h = tt
-all-digits (b ∷ d) h = (digit-decimal 10 b (omega arith) (h .0), all-digits d (h .1))
-
 -- a second byte other than b, o and x announces no base
 base-ten : (s : List ℕ) → (getD s 1 0 ≡ 98 → ⊥) → (getD s 1 0 ≡ 111 → ⊥) → (getD s 1 0 ≡ 120 → ⊥) → baseAt s ≡ 10
 unfolding baseAt
@@ -58,18 +54,9 @@ unprefixed (a ∷ []) suf h l (inr (inr z)) = base-ten (a ∷ suf) (z .0) (z .1 
 
 -- they have the same suffix behind them
 pub other-parts : {base : ℕ} {pre main suf : List ℕ} → IntegerParts base pre main suf → (d : List ℕ) → All decDigit d → 0 < length d → Unprefixed d suf → IntegerParts 10 [] d suf
-unfolding only
 other-parts {suf = suf} p d h l u =
-    record { prefix = dec; digits = all-digits d h; some = some d h l; longest = longest suf p; suffix = p .suffix; no-e = p .no-e; first = first d h l; plain = unprefixed d suf h l u }
+    record { prefix = dec; digits = plain-digits d h; some = plain-some d h l; longest = longest suf p; suffix = p .suffix; no-e = p .no-e; first = plain-first d h l; plain = unprefixed d suf h l u }
   where
-    some : (d : List ℕ) → All decDigit d → 0 < length d → run (only 95) d < length d
-    some [] h l = absurd (omega arith)
-    some (b ∷ d) h l = let e = dec-digit-ends b (h .0) in rw (ne-eqb b 95 (λ z. omega arith)) (omega arith)
-
-    first : (d : List ℕ) → All decDigit d → 0 < length d → decDigit (getD d 0 0) ≡ true
-    first [] h l = absurd (omega arith)
-    first (b ∷ d) h l = h .0
-
     longest : {base : ℕ} {pre main : List ℕ} (suf : List ℕ) → IntegerParts base pre main suf → Stops (digit 10) suf
     longest [] p = tt
     longest (b ∷ suf) p = suffix-start p .1 .1 .1 .1

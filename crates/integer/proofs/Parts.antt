@@ -4,18 +4,18 @@ use mathlib.Core.Path.{_≡_, refl, ap, sym, _∙_}
 use mathlib.Core.Bool.{true}
 use mathlib.Core.List.{List, [], _∷_, _++_, append-assoc}
 use Prim.Native.Nat.{ℕ, _+_, _<_}
-use native.Mathlib.Nat.{add-zero}
 use native.Mathlib.Omega.{arith}
 use borrow.Author.Tests.{ne-eqb}
 use lib.Dec.{eqb}
 use lib.ListN.{length, getD, take, drop, length-append, take-append-drop, List·getD-append}
-use lib.Seq.{length-take-le, take-append-seam, drop-append-seam, drop-append-add, drop-drop, getD-drop}
+use lib.Seq.{length-take-le, take-append-seam, drop-append-seam, drop-append-add, drop-drop}
 use Rattle.err.specs.Outcome.{Values, accepted, digits}
 use Rattle.scan.specs.Run.{run}
 use Rattle.scan.specs.Sets.{only}
 use Rattle.scan.proofs.Cases.{cond-in, cond-eq}
 use Rattle.scan.proofs.Runs.{run-le, run-all, run-stops, run-is}
-use Rattle.parse.specs.Sets.{digit, decDigit, startsE}
+use Rattle.parse.specs.Sets.{digit, decDigit}
+use Rattle.parse.proofs.Numbers.{e-behind}
 use Rattle.integer.specs.Integer.{baseAt, prefixLen, mainLen, mainPart, afterSuffix, afterDigits, integerOf, integerAt, integerRead}
 use Rattle.integer.specs.Parts.{Prefixed, dec, bin, oct, hex, IntegerParts, Tiled}
 use Rattle.integer.proofs.Suffixed.{suffix-passed, digits-passed}
@@ -41,10 +41,6 @@ prefixed (a ∷ b ∷ s) =
   where
     P : ℕ → Type 0
     P n = Prefixed n (take (prefixLen n) (a ∷ b ∷ s))
-
-e-behind : (s : List ℕ) (n : ℕ) → startsE (drop n s) 0 ≡ startsE s n
-unfolding startsE
-e-behind s n = rw (getD-drop, add-zero)
 
 -- an accepted text is made up of its parts
 pub sound : (s : List ℕ) (k e : ℕ) (v : Values) → integerRead s ≡ accepted k e v → Tiled s k e v

@@ -6,12 +6,12 @@ use mathlib.Core.List.{List, [], _∷_}
 use Prim.Native.Nat.{ℕ, _-_, _<_}
 use native.Mathlib.Nat.{add-sub-cancel-left}
 use native.Mathlib.Omega.{arith}
-use borrow.Author.Tests.{lt-ltb}
 use lib.ListN.{length, getD}
 use Rattle.err.specs.Outcome.{Outcome, Values, refused, accepted, none, between}
 use Rattle.err.specs.declared.IntegerLit.{IntegerLit}
 use Rattle.scan.specs.Byte.{byteOf}
 use Rattle.scan.specs.declared.Byte.the-variants.{At, Nothing}
+use Rattle.scan.proofs.Bytes.{first-none, first-some}
 use Rattle.scan.proofs.Cases.{cond-in, clash}
 use Rattle.parse.specs.Class.{classOf}
 use Rattle.parse.specs.Sets.{decDigit}
@@ -25,16 +25,12 @@ unfolding integerAt integerOf
 at-scan l s h = rw (h .end, h .start, h .base, add-sub-cancel-left)
 
 -- what `get` says of the first byte
-pub read-none : (s : List ℕ) → Nothing ≡ byteOf s 0 → refused 1 none ≡ integerRead s
+pub read-none : (s : List ℕ) → byteOf s 0 ≡ Nothing → refused 1 none ≡ integerRead s
 unfolding integerRead
-read-none [] h = refl
-read-none (b ∷ s) h =
-    let t = lt-ltb 0 (length (b ∷ s)) (omega arith) in
-    let z : _≡_ {A = ℕ} 0 1 = cc in absurd (omega arith)
+read-none s h = rw (first-none s h)
 
-pub first-byte : (s : List ℕ) (b : ℕ) → At b ≡ byteOf s 0 → (0 < length s) × (b ≡ getD s 0 0)
-first-byte [] b h = let z : _≡_ {A = ℕ} 0 1 = cc in absurd (omega arith)
-first-byte (a ∷ s) b h = let t = lt-ltb 0 (length (a ∷ s)) (omega arith) in (omega arith, cc)
+pub first-byte : (s : List ℕ) (b : ℕ) → byteOf s 0 ≡ At b → (0 < length s) × (b ≡ getD s 0 0)
+first-byte s b h = rw (first-some s b h) (omega arith, refl)
 
 pub read-digit : (s : List ℕ) → decDigit (getD s 0 0) ≡ true → integerAt s ≡ integerRead s
 unfolding integerRead decDigit classOf

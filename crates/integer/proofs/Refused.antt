@@ -1,23 +1,23 @@
 -- A refusal of an integer has one of litrs's numbers and a span inside the text.
 -- Assumes nothing.
-use mathlib.Core.Path.{_≡_, refl, sym, _∙_, subst}
+use mathlib.Core.Path.{_≡_, refl, subst}
 use mathlib.Core.Bool.{true}
-use mathlib.Core.Logic.{⊎-elim}
 use mathlib.Core.List.{List, [], _∷_}
 use Prim.Native.Nat.{ℕ, _+_, _≤_, _<_}
 use native.Mathlib.Omega.{arith}
-use borrow.Author.Tests.{eqb-true}
 use lib.Dec.{eqb}
-use lib.ListN.{length, getD, take, drop, length-drop, List·getD-eq-default}
+use lib.ListN.{length, getD, take, drop, length-drop}
 use Rattle.err.specs.Outcome.{Place, Outcome, refused, accepted, RefusedIn}
 use Rattle.scan.specs.Run.{run}
 use Rattle.scan.specs.Sets.{only}
+use Rattle.scan.proofs.Bytes.{byte-inside}
 use Rattle.scan.proofs.Cases.{by-lt, cond-in, cond-eq}
 use Rattle.scan.proofs.Runs.{run-le}
 use Rattle.parse.specs.Sets.{digit, decDigit, startsE}
 use Rattle.parse.specs.Suffix.{suffixFault}
-use Rattle.parse.proofs.Classes.{either, dec-digit-ends}
-use Rattle.parse.proofs.Suffixes.{fault-cases}
+use Rattle.parse.proofs.Classes.{dec-digit-ends}
+use Rattle.parse.proofs.Numbers.{e-inside}
+use Rattle.parse.proofs.Suffixes.{fault-small}
 use Rattle.integer.specs.Integer.{baseAt, prefixLen, mainLen, afterSuffix, afterDigits, integerOf, integerAt, integerRead}
 use Rattle.integer.proofs.Bases.{base-short}
 
@@ -28,17 +28,8 @@ Told m (accepted k e vs) = Unit {0}
 
 -- ---- what stands inside the text
 
-byte-inside : (s : List ℕ) (at b : ℕ) → getD s at 0 ≡ b → 0 < b → at < length s
-byte-inside s at b e h = by-lt at (length s) (λ l. l) (λ l. absurd (omega (arith, sym (List·getD-eq-default s 0 l) ∙ e)))
-
 digit-inside : (s : List ℕ) (at : ℕ) → decDigit (getD s at 0) ≡ true → at < length s
 digit-inside s at t = let h = dec-digit-ends (getD s at 0) t in byte-inside s at (getD s at 0) refl (omega arith)
-
-e-inside : (s : List ℕ) (at : ℕ) → startsE s at ≡ true → at < length s
-unfolding startsE
-e-inside s at t =
-    ⊎-elim (λ e. byte-inside s at 101 (eqb-true _ _ e) (omega arith)) (λ e. byte-inside s at 69 (eqb-true _ _ e) (omega arith))
-    (either (eqb (getD s at 0) 101) (eqb (getD s at 0) 69) t)
 
 prefix-inside : (s : List ℕ) → prefixLen (baseAt s) ≤ length s
 unfolding prefixLen
@@ -53,9 +44,6 @@ main-inside s =
     omega (arith, prefix-inside s, run-le (digit (baseAt s)) (drop n s), length-drop n s)
 
 -- ---- the tests in their order
-
-fault-small : (s : List ℕ) → suffixFault s ≤ 41
-fault-small s = ⊎-elim (λ e. omega arith) (⊎-elim (λ e. omega arith) (λ e. omega arith)) (fault-cases s)
 
 module _ (s : List ℕ) where
   after-suffix : (e : ℕ) (next : Outcome) → e ≤ length s → Told (length s) next → Told (length s) (afterSuffix s e next)

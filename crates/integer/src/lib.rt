@@ -4,7 +4,6 @@ use err::IntegerLit;
 use err::ParseErrorKind;
 use err::Reading;
 use err::Span;
-use parse::ClassSet;
 use parse::Suffix;
 use scan::Byte;
 use scan::ByteSet;
@@ -16,7 +15,7 @@ ghost use Rattle.err.specs.Reading.{outcomeOf, baseOf, prefixOf};
 ghost use Rattle.scan.specs.Run.{run};
 ghost use Rattle.parse.specs.Sets.{digit};
 ghost use Rattle.integer.specs.Integer.{baseAt, Scanned, parsedOf, afterSuffix, integerAt, integerRead};
-ghost use Rattle.integer.specs.Value.{number, within, bounded, valuedOf, integerValue};
+ghost use Rattle.integer.specs.Value.{number, within, bounded, valuedOf};
 
 // An integer literal, or why a text is none.
 pub enum Parsed {
@@ -43,12 +42,12 @@ fn base_of(text: &[u8]) -> IntegerBase
     }
 }
 
-// How many digits and `_` stand at the front: those of the base ten in blocks, the others by class.
+// How many digits and `_` stand at the front.
 fn main_len(s: &[u8], base: IntegerBase) -> usize
     ensures { λ r. ⌜ r ≡ run (digit (baseOf base)) (now (s .entry)) ⌝ }
 {
     let IntegerBase::Decimal = base else {
-        return parse::run_len(s, ClassSet::Digits(base.value()));
+        return parse::end_digits(s, base.value());
     };
     parse::end_dec_digits(s)
 }
@@ -176,19 +175,8 @@ pub enum IntegerValue {
     Refused(ParseErrorKind, Span),
 }
 
-// The value of the integer literal that a text is, where it is at most the type's largest.
-pub fn value(text: &[u8], largest: u64) -> IntegerValue
-    ensures { λ r. ⌜ valuedOf r ≡ integerValue largest (now (text .entry)) ⌝ }
-{
-    let parsed = parse_lit(text);
-    match parsed {
-        Parsed::Lit(lit) => value_of(text, lit, largest),
-        Parsed::Refused(kind, span) => IntegerValue::Refused(kind, span),
-    }
-}
-
-// Of a literal whose ends lie in the text.
-fn value_of(text: &[u8], lit: IntegerLit, largest: u64) -> IntegerValue
+// The value of a literal whose ends lie in the text, where it is at most the type's largest.
+pub fn value_of(text: &[u8], lit: IntegerLit, largest: u64) -> IntegerValue
     requires { ⌜ (lit .«start_main_part» ≤ lit .«end_main_part») × (lit .«end_main_part» ≤ length (now text)) ⌝ }
     ensures { λ r. ⌜ valuedOf r ≡ bounded largest (number (baseOf (lit .base)) (slice (lit .«start_main_part») (lit .«end_main_part») (now (text .entry)))) ⌝ }
 {

@@ -54,3 +54,7 @@ entry-accepted (suc code) s c h =
     let a = any-entry (suc code) s (omega arith) c h in
     let o = own-entry s (a .1) in
     (o .0, o .1, (λ l. a .0), a .1, o .2)
+
+-- what an entry from 1 to 8 reads has the entry's kind
+pub read-kind : (code : ℕ) (s : List ℕ) {k e : ℕ} {vs : Values} → 1 ≤ code → readAt code s ≡ accepted k e vs → k ≡ code
+read-kind code s l h = let p = read-passed code s h in entry-accepted code s (p .0) (p .3) .2 l

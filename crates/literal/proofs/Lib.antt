@@ -1,11 +1,12 @@
-pub mod Firsts
 pub mod Checks
 pub mod Starts
 pub mod KindLaws
 pub mod Openings
 pub mod Entries
+pub mod Dispatch
 pub mod Quoted
 pub mod Lows
 pub mod Inside
 pub mod Refusals
 pub mod Answers
+pub mod Calls

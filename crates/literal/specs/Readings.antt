@@ -12,7 +12,10 @@ use Rattle.boolean.specs.Bool.{boolRead}
 use Rattle.integer.specs.Integer.{integerRead}
 use Rattle.float.specs.Float.{floatRead}
 use Rattle.character.specs.Single.{charRead, byteRead}
+use Rattle.character.specs.declared.Quote.{Quote}
+use Rattle.character.specs.declared.Quote.the-variants.{Char, Byte}
 use Rattle.string.specs.String.{stringRead}
+use Rattle.string.specs.declared.Kind.{Kind}
 use Rattle.string.specs.declared.Kind.the-variants.{Text, Bytes, C}
 use Rattle.literal.specs.Checks.{textFault}
 
@@ -65,3 +68,44 @@ readAt code s =
     cond (leb code 8)
     (cond (eqb (textFault s) 0) (entryRead code s) (refused (textFault s) none))
     (refused 42 none)
+
+-- ---- the entry that reads a text
+
+-- of a number: float or integer, by the rule above
+unfoldable pub numberEntry : List ℕ → ℕ
+numberEntry s = cond (startsFloat s) 3 2
+
+-- of a text that starts with `b`: byte, byte string, or 9, which is no entry
+unfoldable pub byteEntry : List ℕ → ℕ
+byteEntry s =
+    cond (eqb (getD s 1 0) 39) 6
+    (cond (eqb (getD s 1 0) 114 || eqb (getD s 1 0) 34) 7
+    9)
+
+-- by the first byte, as `anyBy`
+unfoldable pub entryBy : ℕ → List ℕ → ℕ
+entryBy b s =
+    cond (decDigit b) (numberEntry s)
+    (cond (eqb b 102 || eqb b 116) 1
+    (cond (eqb b 39) 4
+    (cond (eqb b 34 || eqb b 114) 5
+    (cond (eqb b 98) (byteEntry s)
+    (cond (eqb b 99) 8
+    9)))))
+
+-- the entry from 1 to 8 that answers a text as entry 0 does; 9 where none is known, which is 3. No bytes are 1 by each of them
+unfoldable pub entryFor : List ℕ → ℕ
+entryFor [] = 2
+entryFor (b ∷ s) = entryBy b (b ∷ s)
+
+-- the entry that reads a text by an entry code: that of the code, but for 0
+unfoldable pub chosenEntry : ℕ → List ℕ → ℕ
+chosenEntry code s = cond (eqb code 0) (entryFor s) code
+
+-- char or byte, by entry 4 or 6
+unfoldable pub quoteIn : ℕ → Quote
+quoteIn e = cond (eqb e 4) Char Byte
+
+-- string, byte string or C string, by entry 5, 7 or 8
+unfoldable pub kindIn : ℕ → Kind
+kindIn e = cond (eqb e 5) Text (cond (eqb e 7) Bytes C)

@@ -1,10 +1,10 @@
 // The calls that a user makes, of any code and any bytes. A refusal is the first of 42, 43, 44, litrs's own, 45 or 48.
 // The last clause of each public function's contract says that the text at exit is what it was at entry.
+use character::Quote;
 use err::ParseErrorKind;
 use err::Reading;
 use err::Span;
 use integer::IntegerValue;
-use scan::Byte;
 use string::Decoded;
 use string::Kind;
 use types::FloatFound;
@@ -19,9 +19,9 @@ ghost use Rattle.integer.specs.Value.{valuedOf};
 ghost use Rattle.err.specs.Reading.{outcomeOf};
 ghost use Rattle.string.specs.Decode.{decodedOf};
 ghost use Rattle.literal.specs.Checks.{faultOf, textFault};
-ghost use Rattle.literal.specs.Readings.{startsFloat, numberRead, byteOrStringRead, anyRead, entryRead, readAt};
-ghost use Rattle.literal.specs.Decodes.{kindCoded, checkedDecode, checkedBuffer, decodeAt, bufferAt};
-ghost use Rattle.literal.specs.Values.{checkedValue, valueAt};
+ghost use Rattle.literal.specs.Readings.{startsFloat, numberEntry, byteEntry, entryFor, chosenEntry, quoteIn, kindIn, entryRead, readAt};
+ghost use Rattle.literal.specs.Decodes.{kindCoded, decodeAt, bufferAt};
+ghost use Rattle.literal.specs.Values.{valueAt};
 ghost use Rattle.literal.specs.Suffixes.{integerFromSuffix, floatFromSuffix};
 
 // What is wrong with a text before it is read.
@@ -41,32 +41,6 @@ fn check_text(text: &[u8]) -> Checked
         return Checked::Good;
     }
     Checked::Bad(ParseErrorKind::NotUtf8)
-}
-
-fn checked_value(text: &[u8], largest: u64) -> IntegerValue
-    ensures { λ r. ⌜ valuedOf r ≡ checkedValue largest (now (text .entry)) ⌝ }
-{
-    let checked = check_text(text);
-    let Checked::Bad(kind) = checked else {
-        return integer::value(text, largest);
-    };
-    IntegerValue::Refused(kind, Span::Nowhere)
-}
-
-// The value of an integer literal at a type code.
-pub fn value(code: u64, text: &[u8]) -> IntegerValue
-    ensures { λ r. ⌜ valuedOf r ≡ valueAt code (now (text .entry)) ⌝ }
-    ensures { λ r. ⌜ now (text .exit) ≡ now (text .entry) ⌝ }
-{
-    let found = IntegerType::from_code(code);
-    let IntegerFound::Type(ty) = found else {
-        return IntegerValue::Refused(ParseErrorKind::BadCode, Span::Nowhere);
-    };
-    let most = ty.largest();
-    let Largest::Value(largest) = most else {
-        return IntegerValue::Refused(ParseErrorKind::BadCode, Span::Nowhere);
-    };
-    checked_value(text, largest)
 }
 
 // The code of the integer type that a name stands for, or 0.
@@ -104,64 +78,85 @@ fn starts_float(text: &[u8]) -> bool
     parse::has_e(text, end)
 }
 
-fn parse_number(text: &[u8]) -> Reading
-    ensures { λ r. ⌜ outcomeOf r ≡ numberRead (now (text .entry)) ⌝ }
+fn number_entry(text: &[u8]) -> u64
+    ensures { λ r. ⌜ r ≡ numberEntry (now (text .entry)) ⌝ }
 {
-    if starts_float(text) {
-        return float::parse(text);
-    }
-    integer::parse(text)
+    if starts_float(text) { 3 } else { 2 }
 }
 
-// A text that starts with `b`: a byte, a byte string, or nothing that is known.
-fn parse_b(text: &[u8]) -> Reading
-    ensures { λ r. ⌜ outcomeOf r ≡ byteOrStringRead (now (text .entry)) ⌝ }
+// Of a text that starts with `b`: a byte, a byte string, or nothing that is known.
+fn b_entry(text: &[u8]) -> u64
+    ensures { λ r. ⌜ r ≡ byteEntry (now (text .entry)) ⌝ }
 {
     match scan::byte_at(text, 1) {
-        b'\'' => character::parse_byte(text),
-        b'r' => string::parse(text, Kind::Bytes),
-        b'"' => string::parse(text, Kind::Bytes),
-        _ => err::perr_nowhere(ParseErrorKind::InvalidLiteral),
+        b'\'' => 6,
+        b'r' => 7,
+        b'"' => 7,
+        _ => 9,
     }
 }
 
-// Any literal, by its first byte: entry 0.
-fn parse(text: &[u8]) -> Reading
-    ensures { λ r. ⌜ outcomeOf r ≡ anyRead (now (text .entry)) ⌝ }
+// The entry that reads a text, by its first byte; 9 where none does. No bytes are refused by each as by entry 2.
+fn entry_for(text: &[u8]) -> u64
+    ensures { λ r. ⌜ r ≡ entryFor (now (text .entry)) ⌝ }
 {
-    let first = scan::get(text, 0);
-    let Byte::At(b) = first else {
-        return err::perr_nowhere(ParseErrorKind::Empty);
-    };
+    if text.len() == 0 {
+        return 2;
+    }
+    let b = text[0];
     if parse::is_decimal(b) {
-        return parse_number(text);
+        return number_entry(text);
     }
     match b {
-        b'f' => boolean::parse(text),
-        b't' => boolean::parse(text),
-        b'\'' => character::parse_char(text),
-        b'"' => string::parse(text, Kind::Text),
-        b'r' => string::parse(text, Kind::Text),
-        b'b' => parse_b(text),
-        b'c' => string::parse(text, Kind::C),
-        _ => err::perr_nowhere(ParseErrorKind::InvalidLiteral),
+        b'f' => 1,
+        b't' => 1,
+        b'\'' => 4,
+        b'"' => 5,
+        b'r' => 5,
+        b'b' => b_entry(text),
+        b'c' => 8,
+        _ => 9,
     }
 }
 
+fn chosen(code: u64, text: &[u8]) -> u64
+    ensures { λ r. ⌜ r ≡ chosenEntry code (now (text .entry)) ⌝ }
+{
+    if code == 0 {
+        return entry_for(text);
+    }
+    code
+}
+
+fn quote_of(entry: u64) -> Quote
+    ensures { λ r. ⌜ r ≡ quoteIn entry ⌝ }
+{
+    if entry == 4 { Quote::Char } else { Quote::Byte }
+}
+
+fn kind_of(entry: u64) -> Kind
+    ensures { λ r. ⌜ r ≡ kindIn entry ⌝ }
+{
+    match entry {
+        5 => Kind::Text,
+        7 => Kind::Bytes,
+        _ => Kind::C,
+    }
+}
+
+// The reading of a checked text. Each kind's parser has one call here, so that it becomes part of this function.
 fn entry(code: u64, text: &[u8]) -> Reading
-    requires { ⌜ code ≤ 8 ⌝ }
+    requires { ⌜ (code ≤ 8) × (length (now text) ≤ 65536) ⌝ }
     ensures { λ r. ⌜ outcomeOf r ≡ entryRead code (now (text .entry)) ⌝ }
 {
-    match code {
-        0 => parse(text),
+    let e = chosen(code, text);
+    match e {
         1 => boolean::parse(text),
         2 => integer::parse(text),
         3 => float::parse(text),
-        4 => character::parse_char(text),
-        5 => string::parse(text, Kind::Text),
-        6 => character::parse_byte(text),
-        7 => string::parse(text, Kind::Bytes),
-        _ => string::parse(text, Kind::C),
+        4 | 6 => character::parse(text, quote_of(e)),
+        9 => err::perr_nowhere(ParseErrorKind::InvalidLiteral),
+        _ => string::parse(text, kind_of(e)),
     }
 }
 
@@ -178,6 +173,28 @@ pub fn read(code: u64, text: &[u8]) -> Reading
         return entry(code, text);
     };
     err::perr_nowhere(kind)
+}
+
+// The value of an integer literal at a type code.
+pub fn value(code: u64, text: &[u8]) -> IntegerValue
+    ensures { λ r. ⌜ valuedOf r ≡ valueAt code (now (text .entry)) ⌝ }
+    ensures { λ r. ⌜ now (text .exit) ≡ now (text .entry) ⌝ }
+{
+    let found = IntegerType::from_code(code);
+    let IntegerFound::Type(ty) = found else {
+        return IntegerValue::Refused(ParseErrorKind::BadCode, Span::Nowhere);
+    };
+    let most = ty.largest();
+    let Largest::Value(largest) = most else {
+        return IntegerValue::Refused(ParseErrorKind::BadCode, Span::Nowhere);
+    };
+    let reading = read(2, text);
+    match reading {
+        Reading::Integer(lit) => integer::value_of(text, lit, largest),
+        Reading::Refused(kind, span) => IntegerValue::Refused(kind, span),
+        // cannot arise: entry 2 reads integers
+        _ => IntegerValue::Refused(ParseErrorKind::InvalidLiteral, Span::Nowhere),
+    }
 }
 
 // A kind with decoded bytes, or that a code is none.
@@ -197,17 +214,6 @@ fn kind_from_code(code: u64) -> KindFound
     }
 }
 
-fn checked_decode(kind: Kind, text: &[u8], out: &mut [u8]) -> Decoded
-    ensures { λ r. ⌜ decodedOf r ≡ checkedDecode kind (now (text .entry)) (length (now (out .entry))) ⌝ }
-    ensures { λ r. ⌜ now (out .exit) ≡ checkedBuffer kind (now (text .entry)) (now (out .entry)) ⌝ }
-{
-    let checked = check_text(text);
-    let Checked::Bad(fault) = checked else {
-        return string::decode(text, kind, out);
-    };
-    Decoded::Refused(fault, Span::Nowhere)
-}
-
 // The decoded bytes of a literal by entry code 5, 7 or 8, written to the front of out.
 pub fn decode(code: u64, text: &[u8], out: &mut [u8]) -> Decoded
     ensures { λ r. ⌜ decodedOf r ≡ decodeAt code (now (text .entry)) (length (now (out .entry))) ⌝ }
@@ -218,5 +224,13 @@ pub fn decode(code: u64, text: &[u8], out: &mut [u8]) -> Decoded
     let KindFound::Kind(kind) = found else {
         return Decoded::Refused(ParseErrorKind::BadCode, Span::Nowhere);
     };
-    checked_decode(kind, text, out)
+    let reading = read(code, text);
+    match reading {
+        Reading::String(lit) => string::decode(text, kind, lit, out),
+        Reading::ByteString(lit) => string::decode(text, kind, lit, out),
+        Reading::CString(lit) => string::decode(text, kind, lit, out),
+        Reading::Refused(fault, span) => Decoded::Refused(fault, span),
+        // cannot arise: these entries read strings
+        _ => Decoded::Refused(ParseErrorKind::InvalidLiteral, Span::Nowhere),
+    }
 }

@@ -3,12 +3,12 @@
 use mathlib.Core.Path.{_≡_, refl, sym, _∙_}
 use mathlib.Core.Bool.{Bool, true, false, not, _&&_, _||_, and-false, or-true, or-false}
 use mathlib.Core.Logic.{_⊎_, inl, inr, ⊎-map}
-use Prim.Native.Nat.{ℕ, _-_, _≤_, _<_}
+use Prim.Native.Nat.{ℕ, _+_, _-_, _≤_, _<_}
 use native.Mathlib.Omega.{arith}
-use lib.Dec.{T, leb, ltb, eqb}
-use borrow.Author.Tests.{ltb-true, leb-true, eqb-true, lt-ltb, le-ltb, le-leb, lt-leb, ne-eqb, not-true}
+use lib.Dec.{T, leb, ltb, eqb, eqb→eq}
+use borrow.Author.Tests.{ltb-true, ltb-false, leb-true, eqb-true, lt-ltb, le-ltb, le-leb, lt-leb, ne-eqb, not-true}
 use Rattle.scan.proofs.Cases.{by-lt, cond-lt, clash}
-use Rattle.scan.proofs.Tables.{everyBelow, alike, agreed}
+use Rattle.scan.proofs.Tables.{everyBelow, below, alike, agreed}
 use Rattle.parse.specs.Class.{classOf, within}
 use Rattle.parse.specs.Sets.{inClass, inSet, digit, suffixRest, blank, decDigit, hexDigitOf}
 use Rattle.parse.specs.Suffix.{suffixStart}
@@ -29,6 +29,9 @@ either false b e = inr e
 
 pub within-above : (a e b : ℕ) → e < b → within a e b ≡ false
 within-above a e b h = rw (lt-leb b e h, and-false)
+
+pub within-below : (a e b : ℕ) → b < a → within a e b ≡ false
+within-below a e b h = rw (lt-leb a b h)
 
 pub within-is : (a e b : ℕ) → a ≤ b → b ≤ e → within a e b ≡ true
 within-is a e b h g = rw (le-leb a b h, le-leb b e g)
@@ -54,6 +57,24 @@ class-underscore = refl
 pub class-underscore-is : (b : ℕ) → eqb (classOf b) 16 ≡ eqb b 95
 unfolding classOf
 class-underscore-is = everywhere (λ b. eqb (classOf b) 16) (λ b. eqb b 95) tt (λ b h. rw (class-above b h, ne-eqb b 95 (omega arith)))
+
+-- the class of the n bytes from a on, by a test of each
+pub class-from : (f : ℕ → ℕ) (a n : ℕ) → T (everyBelow (λ k. eqb (classOf (a + k)) (f (a + k))) n) → (b : ℕ) → a ≤ b → b < a + n → classOf b ≡ f b
+class-from f a n t b h g =
+    let q : a + (b - a) ≡ b = omega arith in
+    rw q at (eqb→eq (classOf (a + (b - a))) (f (a + (b - a))) (below (λ k. eqb (classOf (a + k)) (f (a + k))) n t (b - a) (omega arith)))
+
+pub class-digit : (b : ℕ) → 48 ≤ b → b ≤ 57 → classOf b ≡ b - 48
+unfolding classOf
+class-digit b h g = class-from (λ b. b - 48) 48 10 tt b h (omega arith)
+
+pub class-upper-hex : (b : ℕ) → 65 ≤ b → b ≤ 70 → classOf b ≡ b - 55
+unfolding classOf
+class-upper-hex b h g = class-from (λ b. b - 55) 65 6 tt b h (omega arith)
+
+pub class-lower-hex : (b : ℕ) → 97 ≤ b → b ≤ 102 → classOf b ≡ b - 87
+unfolding classOf
+class-lower-hex b h g = class-from (λ b. b - 87) 97 6 tt b h (omega arith)
 
 pub class-most : (b : ℕ) → classOf b ≤ 20
 unfolding classOf
@@ -102,9 +123,13 @@ pub digit-decimal : (base b : ℕ) → 10 ≤ base → decDigit b ≡ true → d
 unfolding decDigit
 digit-decimal base b h t = digit-below base b (omega (arith, ltb-true (classOf b) 10 t))
 
+pub digit-is : (base b : ℕ) → digit base b ≡ (eqb b 95 || ltb (classOf b) base)
+unfolding digit
+digit-is base b = rw class-underscore-is
+
 pub digit-ten : (b : ℕ) → digit 10 b ≡ (eqb b 95 || decDigit b)
-unfolding digit decDigit
-digit-ten b = rw class-underscore-is
+unfolding decDigit
+digit-ten b = digit-is 10 b
 
 pub digit-ten-cases : (b : ℕ) → digit 10 b ≡ true → (b ≡ 95) ⊎ (decDigit b ≡ true)
 digit-ten-cases b t = ⊎-map (eqb-true b 95) (λ e. e) (either (eqb b 95) (decDigit b) (sym (digit-ten b) ∙ t))
@@ -153,6 +178,11 @@ unfolding classOf
 hex-is =
     everywhere (λ b. ltb (classOf b) 16) (λ b. within 48 57 b || (within 97 102 b || within 65 70 b)) tt
     (λ b h. rw (class-above b h, within-above 48 57 b (omega arith), within-above 97 102 b (omega arith), within-above 65 70 b (omega arith)))
+
+-- what is neither a hex digit nor `_` is no digit of a base up to 16
+pub digit-not : (base b : ℕ) → base ≤ 16 → (b ≡ 95 → ⊥) → within 48 57 b ≡ false → within 97 102 b ≡ false → within 65 70 b ≡ false → digit base b ≡ false
+digit-not base b h n x y z =
+    rw (digit-is, ne-eqb b 95 n, le-ltb (classOf b) base (omega (arith, ltb-false (classOf b) 16 (rw (hex-is, x, y, z)))))
 
 pub hex-class : (b v : ℕ) → hexDigitOf b ≡ Value v → (v ≡ classOf b) × (v < 16)
 unfolding hexDigitOf

@@ -2,9 +2,9 @@
 -- Assumes nothing.
 use mathlib.Core.Path.{_≡_, refl, ap}
 use mathlib.Core.Bool.{Bool, true, _&&_, and-false}
-use mathlib.Core.Logic.{_⊎_, inl, inr}
+use mathlib.Core.Logic.{_⊎_, inl, inr, ⊎-elim}
 use mathlib.Core.List.{List, [], _∷_}
-use Prim.Native.Nat.{ℕ, suc}
+use Prim.Native.Nat.{ℕ, suc, _≤_}
 use native.Mathlib.Omega.{arith}
 use lib.Dec.{eqb}
 use lib.ListN.{length, getD, drop}
@@ -42,6 +42,10 @@ pub fault-cases : (s : List ℕ) → (suffixFault s ≡ 0) ⊎ ((suffixFault s �
 unfolding suffixFault
 fault-cases [] = inl refl
 fault-cases (b ∷ s) = by-tests (λ n. (n ≡ 0) ⊎ ((n ≡ 2) ⊎ (n ≡ 39))) b s (inr (inr refl)) (inr (inl refl)) (λ t e. inl refl)
+
+-- none of the answers from 42 on, which are given for a whole text
+pub fault-small : (s : List ℕ) → suffixFault s ≤ 41
+fault-small s = ⊎-elim (λ e. omega arith) (⊎-elim (λ e. omega arith) (λ e. omega arith)) (fault-cases s)
 
 -- ---- a suffix is good exactly when its first byte may start one, the others may follow, and it is not `_` alone
 

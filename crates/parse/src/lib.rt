@@ -2,11 +2,11 @@
 use err::ParseErrorKind;
 ghost use mathlib.Core.Path.{_≡_};
 ghost use mathlib.Core.Bool.{cond};
-ghost use Prim.Native.Nat.{_+_, _≤_};
+ghost use Prim.Native.Nat.{_+_, _≤_, _<_};
 ghost use lib.ListN.{length, drop};
 ghost use Rattle.scan.specs.Run.{run, outs};
 ghost use Rattle.parse.specs.Class.{classOf, within, Classes};
-ghost use Rattle.parse.specs.Sets.{digit, decDigit, inSet, inClass, hexDigitOf, startsE};
+ghost use Rattle.parse.specs.Sets.{digit, suffixRest, blank, decDigit, inSet, inClass, hexDigitOf, startsE};
 ghost use Rattle.parse.specs.Suffix.{suffixFault, suffixStart, faultOf};
 
 // The class of each byte: hex digit value 0 to 15; 16 `_`; 17 other ASCII letter; 18 space, tab, LF; 19 other ASCII;
@@ -270,10 +270,56 @@ const CLASSES: [u8; 256] = [
     20,
 ];
 
+// Below `0`.
+fn low_class(b: u8) -> u8
+    requires { ⌜ b < 48 ⌝ }
+    ensures { λ r. ⌜ r ≡ classOf b ⌝ }
+{
+    match b {
+        b' ' => 18,
+        b'\t' => 18,
+        b'\n' => 18,
+        _ => 19,
+    }
+}
+
+// Above `Z` and below `a`.
+fn middle_class(b: u8) -> u8
+    requires { ⌜ (90 < b) × (b < 97) ⌝ }
+    ensures { λ r. ⌜ r ≡ classOf b ⌝ }
+{
+    if b == b'_' { 16 } else { 19 }
+}
+
+// The class of one byte, by comparisons. A scan of many bytes looks them up in the table.
 pub fn class_of(b: u8) -> u8
     ensures { λ r. ⌜ r ≡ classOf b ⌝ }
 {
-    CLASSES[b as usize]
+    if b < b'0' {
+        return low_class(b);
+    }
+    if b <= b'9' {
+        return b - 48;
+    }
+    if b < b'A' {
+        return 19;
+    }
+    if b <= b'F' {
+        return b - 55;
+    }
+    if b <= b'Z' {
+        return 17;
+    }
+    if b < b'a' {
+        return middle_class(b);
+    }
+    if b <= b'f' {
+        return b - 87;
+    }
+    if b <= b'z' {
+        return 17;
+    }
+    if b < 128 { 19 } else { 20 }
 }
 
 // The class of a byte by a copy of the table, which a scan makes once.
@@ -302,7 +348,7 @@ fn is_in(class: u8, set: ClassSet) -> bool
     }
 }
 
-// How many bytes at the front are in the set.
+// How many bytes at the front are in the set, by the table.
 pub fn run_len(s: &[u8], set: ClassSet) -> usize
     ensures { λ r. ⌜ r ≡ run (inSet set) (now (s .entry)) ⌝ }
 {
@@ -318,6 +364,114 @@ pub fn run_len(s: &[u8], set: ClassSet) -> usize
         i += 1;
     }
     i
+}
+
+// How many spaces, tabs and LFs stand at the front.
+pub fn blanks_len(s: &[u8]) -> usize
+    ensures { λ r. ⌜ r ≡ run blank (now (s .entry)) ⌝ }
+{
+    let mut i = 0;
+    while i < s.len() {
+        if !is_blank(s[i]) {
+            return i;
+        }
+        i += 1;
+    }
+    i
+}
+
+fn is_blank(b: u8) -> bool
+    ensures { λ r. ⌜ r ≡ blank b ⌝ }
+{
+    match b {
+        b' ' => true,
+        b'\t' => true,
+        b'\n' => true,
+        _ => false,
+    }
+}
+
+// A digit below a base or `_`, by comparisons: a block with these has no branch and no table.
+fn is_digit_or_underscore(b: u8, base: u8) -> bool
+    requires { ⌜ base ≤ 16 ⌝ }
+    ensures { λ r. ⌜ r ≡ digit base b ⌝ }
+{
+    if b == b'_' {
+        return true;
+    }
+    if b < b'0' {
+        return false;
+    }
+    if b <= b'9' {
+        return b - 48 < base;
+    }
+    if b < b'A' {
+        return false;
+    }
+    if b <= b'F' {
+        return b - 55 < base;
+    }
+    if b < b'a' {
+        return false;
+    }
+    if b <= b'f' {
+        return b - 87 < base;
+    }
+    false
+}
+
+fn digit_mark(b: u8, base: u8) -> u8
+    requires { ⌜ base ≤ 16 ⌝ }
+    ensures { λ r. ⌜ (r ≤ 1) × (r ≡ cond (digit base b) 0 1) ⌝ }
+{
+    if is_digit_or_underscore(b, base) {
+        0
+    } else {
+        1
+    }
+}
+
+fn digit_marks(s: &[u8], base: u8) -> u8
+    requires { ⌜ (length (now s) ≤ 255) × (base ≤ 16) ⌝ }
+    ensures { λ r. ⌜ r ≡ outs (digit base) (now (s .entry)) ⌝ }
+{
+    let mut n: u8 = 0;
+    let mut i = 0;
+    while i < s.len() {
+        n += digit_mark(s[i], base);
+        i += 1;
+    }
+    n
+}
+
+fn digits_end(s: &[u8], from: usize, base: u8) -> usize
+    requires { ⌜ (from ≤ length (now s)) × (base ≤ 16) ⌝ }
+    ensures { λ r. ⌜ r ≡ from + run (digit base) (drop from (now (s .entry))) ⌝ }
+{
+    let mut i = from;
+    while i < s.len() {
+        if !is_digit_or_underscore(s[i], base) {
+            return i;
+        }
+        i += 1;
+    }
+    i
+}
+
+// How many digits below a base and `_` stand at the front: by blocks while there are 64 bytes, then byte by byte.
+pub fn end_digits(s: &[u8], base: u8) -> usize
+    requires { ⌜ base ≤ 16 ⌝ }
+    ensures { λ r. ⌜ r ≡ run (digit base) (now (s .entry)) ⌝ }
+{
+    let mut i = 0;
+    while 64 <= s.len() - i {
+        let e = i + 64;
+        if digit_marks(&s[i..e], base) != 0 {
+            return digits_end(s, i, base);
+        }
+        i = e;
+    }
+    digits_end(s, i, base)
 }
 
 // A decimal digit or `_`, by comparisons: a block with these has no branch and no table.
@@ -403,7 +557,10 @@ pub fn hex_digit_value(digit: u8) -> HexDigit
 pub fn is_decimal(b: u8) -> bool
     ensures { λ r. ⌜ r ≡ decDigit b ⌝ }
 {
-    class_of(b) < 10
+    if b < b'0' {
+        return false;
+    }
+    b <= b'9'
 }
 
 // Whether `e` or `E` stands at an offset.
@@ -424,11 +581,61 @@ pub enum Suffix {
 fn starts_suffix(b: u8) -> bool
     ensures { λ r. ⌜ r ≡ suffixStart b ⌝ }
 {
-    let class = class_of(b);
-    if class < 10 {
+    if 127 < b {
+        return true;
+    }
+    if b == b'_' {
+        return true;
+    }
+    if b < b'A' {
         return false;
     }
-    is_in(class, ClassSet::SuffixRest)
+    if b <= b'Z' {
+        return true;
+    }
+    if b < b'a' {
+        return false;
+    }
+    b <= b'z'
+}
+
+// What may follow in a suffix: such a byte, or a decimal digit.
+fn is_suffix_rest(b: u8) -> bool
+    ensures { λ r. ⌜ r ≡ suffixRest b ⌝ }
+{
+    if starts_suffix(b) {
+        return true;
+    }
+    is_decimal(b)
+}
+
+// A part of the run: at most 16 bytes, each by comparisons.
+fn few(s: &[u8]) -> usize
+    ensures { λ r. ⌜ (r ≤ length (now (s .entry))) × (r + run suffixRest (drop r (now (s .entry))) ≡ run suffixRest (now (s .entry))) ⌝ }
+    ensures { λ r. ⌜ ((r < 16) → (r ≡ run suffixRest (now (s .entry)))) ⌝ }
+{
+    let mut i = 0;
+    while i < s.len() {
+        if i == 16 {
+            return i;
+        }
+        if !is_suffix_rest(s[i]) {
+            return i;
+        }
+        i += 1;
+    }
+    i
+}
+
+// How many bytes at the front may follow in a suffix. A short run pays for no copy of the table.
+fn rest_len(s: &[u8]) -> usize
+    ensures { λ r. ⌜ r ≡ run suffixRest (now (s .entry)) ⌝ }
+{
+    let i = few(s);
+    if i < 16 {
+        return i;
+    }
+    i + run_len(&s[i..], ClassSet::SuffixRest)
 }
 
 pub fn check_suffix(s: &[u8]) -> Suffix
@@ -447,7 +654,7 @@ pub fn check_suffix(s: &[u8]) -> Suffix
         return Suffix::Bad(ParseErrorKind::UnexpectedChar);
     }
     let rest = &s[1..];
-    if run_len(rest, ClassSet::SuffixRest) == rest.len() {
+    if rest_len(rest) == rest.len() {
         Suffix::Good
     } else {
         Suffix::Bad(ParseErrorKind::InvalidSuffix)

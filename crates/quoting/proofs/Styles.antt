@@ -3,21 +3,23 @@
 use mathlib.Core.Path.{_≡_, refl, sym, ap, _∙_}
 use mathlib.Core.Bool.{Bool, true, false, _&&_}
 use mathlib.Core.List.{List, [], _∷_, _++_, append-assoc, append-nil}
-use Prim.Native.Nat.{ℕ, _+_, _*_, _≤_, _<_}
+use Prim.Native.Nat.{ℕ, _+_, _-_, _*_, _≤_, _<_}
 use native.Mathlib.Omega.{arith}
 use native.Mathlib.Numerals.{add-one}
 use lib.Dec.{ltb, leb, eqb}
 use lib.ListN.{length, take, drop, getD, length-append, take-append-drop}
-use lib.Seq.{take-suc}
-use borrow.Author.Tests.{lt-ltb, le-ltb, ne-eqb}
+use lib.Seq.{take-suc, take-add}
+use borrow.Author.Tests.{lt-ltb, le-ltb, le-leb, ne-eqb}
 use Rattle.buffer.specs.Digits.{hexDigits}
-use Rattle.scan.proofs.Cases.{cond-in, cond-lt}
+use Rattle.scan.specs.Run.{run, All}
+use Rattle.scan.proofs.Cases.{cond-in, cond-lt, cond-eq, clash}
+use Rattle.scan.proofs.Runs.{run-all}
 use Rattle.utf8.specs.Utf8.{Utf8, Scalar, encode}
 use Rattle.utf8.proofs.Laws.{is-row1}
 use Rattle.form.specs.Escapes.{letterFor, xForm, asciiForm, charForm, byteForm, charForms, byteForms}
 use Rattle.form.proofs.Fit.{Each}
 use Rattle.form.proofs.ByBytes.{textForms, high-bytes, by-bytes}
-use Rattle.quoting.specs.Styled.{highForm, styledForm, styledForms, printable}
+use Rattle.quoting.specs.Styled.{highForm, styledForm, styledForms, printable, itself}
 
 -- an `\x` escape has four bytes
 pub x-length : (b : ℕ) → length (xForm b) ≡ 4
@@ -43,6 +45,20 @@ module _ (w : Bool) (q : ℕ) where
   unfolding styledForm asciiForm printable
   is-x b h e p = simp (lt-ltb b 128 (omega arith), e, p)
 
+  -- a byte that is its own form
+  pub is-itself : (b : ℕ) → itself w q b ≡ true → styledForm w q b ≡ b ∷ []
+  unfolding itself letterFor printable
+  is-itself b =
+      let P : Bool → Type 0 = λ t. t ≡ true → styledForm w q b ≡ b ∷ [] in
+      cond-lt P b 32 (λ h t. clash t refl)
+      (λ h. cond-eq P b 92 (λ e t. clash t refl)
+      (λ n. cond-eq P b q (λ e t. clash t refl)
+      (λ m. cond-lt P b 127
+      (λ l t. is-plain b (omega arith)
+      (simp (ne-eqb b 92 n, ne-eqb b 10 (λ e. omega arith), ne-eqb b 13 (λ e. omega arith), ne-eqb b 9 (λ e. omega arith), ne-eqb b 0 (λ e. omega arith), ne-eqb b q m))
+      (simp (le-leb 32 b h, lt-ltb b 127 l)))
+      (λ l. cond-eq P b 127 (λ e t. clash t refl) (λ o t. is-high b (omega arith) ∙ rw t)))))
+
   -- ---- all of them, one behind the other
 
   pub forms-append : (u v : List ℕ) → styledForms w q (u ++ v) ≡ styledForms w q u ++ styledForms w q v
@@ -52,22 +68,33 @@ module _ (w : Bool) (q : ℕ) where
   pub forms-one : (b : ℕ) → styledForms w q (b ∷ []) ≡ styledForm w q b
   forms-one b = append-nil (styledForm w q b)
 
+  -- those that are their own forms
+  themselves : (v : List ℕ) → All (itself w q) v → styledForms w q v ≡ v
+  themselves [] h = refl
+  themselves (b ∷ v) h = rw (is-itself b (h .0), themselves v (h .1))
+
   -- an ASCII character is a byte
   pub forms-ascii : (c : ℕ) → c < 128 → styledForms w q (encode c) ≡ styledForm w q c
   forms-ascii c h = rw (is-row1 c h) (forms-one c)
 
-  -- one byte more of a value, which fits where all of them do
+  -- one byte more of a value
   pub forms-more : (v : List ℕ) (i : ℕ) → i < length v
       → styledForms w q (take (i + 1) v) ≡ styledForms w q (take i v) ++ styledForm w q (getD v i 0)
   forms-more v i h = rw (add-one, take-suc v i 0 h, forms-append) (simp append-nil)
 
-  pub forms-room : (v : List ℕ) (i : ℕ) → i < length v
-      → length (styledForms w q (take i v)) + length (styledForm w q (getD v i 0)) ≤ length (styledForms w q v)
-  forms-room v i h =
-      let whole : length (styledForms w q v)
-      ≡ (length (styledForms w q (take i v)) + length (styledForm w q (getD v i 0))) + length (styledForms w q (drop (i + 1) v)) =
-      ap (λ (l : List ℕ). length (styledForms w q l)) (sym (take-append-drop (i + 1) v))
-      ∙ rw (forms-append, forms-more v i h) (simp length-append) in
+  -- the run at i of bytes that are their own forms, up to e
+  pub forms-run : (v : List ℕ) (i e : ℕ) → e ≡ i + run (itself w q) (drop i v)
+      → styledForms w q (take e v) ≡ styledForms w q (take i v) ++ take (e - i) (drop i v)
+  forms-run v i e h =
+      let n = run (itself w q) (drop i v) in
+      let size : e - i ≡ n = omega arith in
+      rw (size, h, take-add i n v, forms-append, themselves (take n (drop i v)) (run-all (itself w q) (drop i v)))
+
+  -- what is written so far and the next piece fit where the whole does
+  pub forms-fit : (v : List ℕ) (e : ℕ) (p r : List ℕ) → styledForms w q (take e v) ≡ p ++ r → length p + length r ≤ length (styledForms w q v)
+  forms-fit v e p r h =
+      let whole : length (styledForms w q v) ≡ (length p + length r) + length (styledForms w q (drop e v)) =
+      ap (λ (l : List ℕ). length (styledForms w q l)) (sym (take-append-drop e v)) ∙ rw (forms-append, h) (simp length-append) in
       omega arith
 
   -- ---- how long they are

@@ -1,10 +1,10 @@
 -- The bytes of a value as a settled form writes them, over what the kinds differ in: the quote, and whether a byte above 127 stands as itself.
 -- `proofs/Styles` shows that these are `charForms` and `byteForms` of crate form.
 -- Assumes nothing.
-use mathlib.Core.Bool.{Bool, cond, _&&_}
+use mathlib.Core.Bool.{Bool, true, false, cond, _&&_}
 use mathlib.Core.List.{List, [], _∷_, _++_}
 use Prim.Native.Nat.{ℕ}
-use lib.Dec.{ltb, leb}
+use lib.Dec.{ltb, leb, eqb}
 use Rattle.form.specs.Escapes.{asciiForm, xForm}
 
 -- a byte above 127: itself in kinds 4 and 5, an escape in the others
@@ -23,3 +23,13 @@ styledForms wide q (b ∷ v) = styledForm wide q b ++ styledForms wide q v
 -- ASCII that stands as itself where no letter escapes it: space to `~`
 unfoldable pub printable : ℕ → Bool
 printable b = leb 32 b && ltb b 127
+
+-- a byte that is its own form (`proofs/Styles` shows it): no control character, backslash or quote, and one above 127 only in a kind that
+-- lets it stand as itself
+unfoldable pub itself : Bool → ℕ → ℕ → Bool
+itself wide q b =
+    cond (ltb b 32) false
+    (cond (eqb b 92) false
+    (cond (eqb b q) false
+    (cond (ltb b 127) true
+    (cond (eqb b 127) false wide))))

@@ -1,16 +1,18 @@
 // The value of a quoted literal as its settled form writes it: measured, and written to the front of what is lent.
-use body::Step;
 use escape::Allowed;
 use escape::Unescaped;
 ghost use mathlib.Core.Path.{_≡_};
-ghost use Prim.Native.Nat.{_*_, _≤_, _<_};
-ghost use lib.ListN.{length};
+ghost use mathlib.Core.Bool.{cond};
+ghost use Prim.Native.Nat.{_+_, _-_, _*_, _≤_, _<_};
+ghost use lib.Dec.{ltb};
+ghost use lib.ListN.{length, drop};
+ghost use Rattle.scan.specs.Run.{run};
 ghost use Rattle.buffer.specs.Buffer.{Wrote};
 ghost use Rattle.utf8.specs.Utf8.{Scalar, encode};
 ghost use Rattle.escape.specs.Escape.{bytesOf, Valid};
 ghost use Rattle.body.specs.Body.{body};
 ghost use Rattle.form.specs.Escapes.{letterFor, xForm};
-ghost use Rattle.quoting.specs.Styled.{highForm, styledForm, styledForms, printable};
+ghost use Rattle.quoting.specs.Styled.{highForm, styledForm, styledForms, printable, itself};
 
 // How a kind writes its value: its quote, and whether a byte above 127 stands as itself.
 pub struct Style {
@@ -100,6 +102,119 @@ pub fn put_form(out: &mut [u8], b: u8, style: Style) -> usize
     put_x(out, b)
 }
 
+// Whether the form of a byte is the byte.
+fn is_itself(b: u8, style: Style) -> bool
+    ensures { λ r. ⌜ r ≡ itself (style .wide) (style .quote) b ⌝ }
+{
+    if b < 32 {
+        return false;
+    }
+    if b == b'\\' {
+        return false;
+    }
+    if b == style.quote {
+        return false;
+    }
+    if b < 127 {
+        return true;
+    }
+    if b == 127 {
+        return false;
+    }
+    style.wide
+}
+
+fn smaller(a: u8, b: u8) -> u8
+    ensures { λ r. ⌜ r ≡ cond (ltb b a) b a ⌝ }
+{
+    if b < a { b } else { a }
+}
+
+// Where a byte at j stands in the way of a run over 64 bytes, or 64.
+fn place(b: u8, j: u8, style: Style) -> u8
+    ensures { λ r. ⌜ r ≡ cond (itself (style .wide) (style .quote) b) 64 j ⌝ }
+{
+    if is_itself(b, style) { 64 } else { j }
+}
+
+// Where the run of bytes that are their own forms ends in 64 bytes. With no exit on the way and a least number of one byte the compiler
+// makes vectors of it.
+fn block_run(s: &[u8], style: Style) -> u8
+    requires { ⌜ length (now s) ≡ 64 ⌝ }
+    ensures { λ r. ⌜ r ≡ run (itself (style .wide) (style .quote)) (now (s .entry)) ⌝ }
+{
+    let mut m: u8 = 64;
+    let mut j: u8 = 0;
+    while j < 64 {
+        m = smaller(m, place(s[j as usize], j, style));
+        j += 1;
+    }
+    m
+}
+
+// The same of the bytes from an offset, byte by byte.
+fn byte_run(s: &[u8], from: usize, style: Style) -> usize
+    requires { ⌜ from ≤ length (now s) ⌝ }
+    ensures { λ r. ⌜ r ≡ from + run (itself (style .wide) (style .quote)) (drop from (now (s .entry))) ⌝ }
+{
+    let mut i = from;
+    while i < s.len() {
+        if !is_itself(s[i], style) {
+            return i;
+        }
+        i += 1;
+    }
+    i
+}
+
+// By blocks while there are 64 bytes.
+fn block_end(s: &[u8], from: usize, style: Style) -> usize
+    requires { ⌜ from ≤ length (now s) ⌝ }
+    ensures { λ r. ⌜ r ≡ from + run (itself (style .wide) (style .quote)) (drop from (now (s .entry))) ⌝ }
+{
+    let mut i = from;
+    while 64 <= s.len() - i {
+        let e = i + 64;
+        let m = block_run(&s[i..e], style);
+        if m < 64 {
+            return i + m as usize;
+        }
+        i = e;
+    }
+    byte_run(s, i, style)
+}
+
+// A part of the run: at most 16 bytes.
+fn few(s: &[u8], from: usize, style: Style) -> usize
+    requires { ⌜ from ≤ length (now s) ⌝ }
+    ensures { λ r. ⌜ (from ≤ r) × (r ≤ length (now (s .entry))) × (r + run (itself (style .wide) (style .quote)) (drop r (now (s .entry))) ≡ from + run (itself (style .wide) (style .quote)) (drop from (now (s .entry)))) ⌝ }
+    ensures { λ r. ⌜ ((r - from < 16) → (r ≡ from + run (itself (style .wide) (style .quote)) (drop from (now (s .entry))))) ⌝ }
+{
+    let mut i = from;
+    while i < s.len() {
+        if i - from == 16 {
+            return i;
+        }
+        if !is_itself(s[i], style) {
+            return i;
+        }
+        i += 1;
+    }
+    i
+}
+
+// Where the run of bytes that are their own forms ends. A short run pays for no block.
+fn itself_end(s: &[u8], from: usize, style: Style) -> usize
+    requires { ⌜ from ≤ length (now s) ⌝ }
+    ensures { λ r. ⌜ r ≡ from + run (itself (style .wide) (style .quote)) (drop from (now (s .entry))) ⌝ }
+{
+    let i = few(s, from, style);
+    if i - from < 16 {
+        return i;
+    }
+    block_end(s, i, style)
+}
+
 // How long the bytes of a slice are in the form.
 pub fn forms_len(s: &[u8], style: Style) -> usize
     requires { ⌜ length (now s) ≤ 65536 ⌝ }
@@ -108,13 +223,18 @@ pub fn forms_len(s: &[u8], style: Style) -> usize
     let mut n: usize = 0;
     let mut i = 0;
     while i < s.len() {
-        n += form_len(s[i], style);
-        i += 1;
+        let e = itself_end(s, i, style);
+        n += e - i;
+        if e == s.len() {
+            return n;
+        }
+        n += form_len(s[e], style);
+        i = e + 1;
     }
     n
 }
 
-// The bytes of a slice, each behind the one before.
+// The bytes of a slice, each behind the one before: a run of those that are their own forms at once.
 pub fn put_forms(out: &mut [u8], s: &[u8], style: Style) -> usize
     requires { ⌜ length (styledForms (style .wide) (style .quote) (now s)) ≤ length (now out) ⌝ }
     ensures { λ r. ⌜ Wrote (styledForms (style .wide) (style .quote) (now (s .entry))) r (now (out .entry)) (now (out .exit)) ⌝ }
@@ -122,8 +242,13 @@ pub fn put_forms(out: &mut [u8], s: &[u8], style: Style) -> usize
     let mut at: usize = 0;
     let mut i = 0;
     while i < s.len() {
-        at += put_form(&mut out[at..], s[i], style);
-        i += 1;
+        let e = itself_end(s, i, style);
+        at += buffer::put_bytes(&mut out[at..], &s[i..e]);
+        if e == s.len() {
+            return at;
+        }
+        at += put_form(&mut out[at..], s[e], style);
+        i = e + 1;
     }
     at
 }
@@ -192,41 +317,45 @@ pub fn body_len(s: &[u8], k: Allowed, style: Style) -> usize
     requires { ⌜ length (now s) ≤ 65536 ⌝ }
     ensures { λ r. ⌜ (r ≡ length (styledForms (style .wide) (style .quote) (body k (now (s .entry)) .value))) × (r ≤ 4 * length (now (s .entry))) ⌝ }
 {
-    let last = utf8::last_len(s);
+    let end = s.len() - utf8::last_len(s);
     let mut i = 0;
     let mut n: usize = 0;
     loop {
-        let e = body::plain_end(s, i, k);
-        n += forms_len(&s[i..e], style);
-        let next = body::step_at(s, e, last, k);
-        match next {
-            Step::Piece(u, len) => {
-                n += value_len(u, style);
-                i = e + len;
-            }
-            Step::Stop(_) => return n,
+        let c = body::code_at(s, i, end, k);
+        if c != 0 {
+            n += value_len(escape::code_value(c), style);
+            i += escape::code_len(c);
+            continue;
         }
+        let e = body::plain_end(s, i, k);
+        if e == i {
+            return n;
+        }
+        n += forms_len(&s[i..e], style);
+        i = e;
     }
 }
 
 // The value of a quoted body, piece by piece.
 pub fn put_body(out: &mut [u8], s: &[u8], k: Allowed, style: Style) -> usize
-    requires { ⌜ length (styledForms (style .wide) (style .quote) (body k (now s) .value)) ≤ length (now out) ⌝ }
+    requires { ⌜ (length (now s) ≤ 65536) × (length (styledForms (style .wide) (style .quote) (body k (now s) .value)) ≤ length (now out)) ⌝ }
     ensures { λ r. ⌜ Wrote (styledForms (style .wide) (style .quote) (body k (now (s .entry)) .value)) r (now (out .entry)) (now (out .exit)) ⌝ }
 {
-    let last = utf8::last_len(s);
+    let end = s.len() - utf8::last_len(s);
     let mut i = 0;
     let mut at: usize = 0;
     loop {
-        let e = body::plain_end(s, i, k);
-        at += put_forms(&mut out[at..], &s[i..e], style);
-        let next = body::step_at(s, e, last, k);
-        match next {
-            Step::Piece(u, len) => {
-                at += put_value(&mut out[at..], u, style);
-                i = e + len;
-            }
-            Step::Stop(_) => return at,
+        let c = body::code_at(s, i, end, k);
+        if c != 0 {
+            at += put_value(&mut out[at..], escape::code_value(c), style);
+            i += escape::code_len(c);
+            continue;
         }
+        let e = body::plain_end(s, i, k);
+        if e == i {
+            return at;
+        }
+        at += put_forms(&mut out[at..], &s[i..e], style);
+        i = e;
     }
 }

@@ -11,7 +11,7 @@ use Rattle.grammar.specs.Numbers.{SIGN}
 use Rattle.grammar.specs.Values.{digitValue, numberIn}
 use Rattle.form.specs.Reduced.{zeros, strip, reduce}
 use Rattle.form.specs.Form.{reducedForm}
-use Rattle.scaling.specs.Figures.{figure, significant, idle, figures, lastEnd}
+use Rattle.scaling.specs.Digits.{isDigit, significant, insignificant, digitsOf, lastEnd}
 use Rattle.scaling.specs.Scaled.{part, floatAt, near}
 
 -- `00_1.5_00e+0_7f64`, whose parts end at 4, 9 and 14
@@ -24,12 +24,12 @@ pub record Examples : Type 0 where
   -- `15e6`
   pub form : reducedForm (reduce (floatAt text 4 9 14)) ≡ 49 ∷ 53 ∷ 101 ∷ 54 ∷ []
   -- 15 stands from 3 to 6
-  pub first : run idle (part 0 9 text) ≡ 3
+  pub first : run insignificant (part 0 9 text) ≡ 3
   pub last : lastEnd (part 0 9 text) ≡ 6
-  pub digits : figures (part 3 6 text) ≡ 49 ∷ 53 ∷ []
+  pub digits : digitsOf (part 3 6 text) ≡ 49 ∷ 53 ∷ []
   -- `1e-1000001`
   pub far : near (floatAt (49 ∷ 101 ∷ 45 ∷ 49 ∷ 48 ∷ 48 ∷ 48 ∷ 48 ∷ 48 ∷ 49 ∷ []) 1 1 10) ≡ false
 
 pub examples : Examples
-unfolding floatAt numberIn digitValue LOW SIGN zeros strip reduce reducedForm decimal figure significant idle
+unfolding floatAt numberIn digitValue LOW SIGN zeros strip reduce reducedForm decimal isDigit significant insignificant
 examples = record { number = refl; form = refl; first = refl; last = refl; digits = refl; far = refl }

@@ -1,4 +1,4 @@
-pub mod Figures
+pub mod Digits
 pub mod Numbers
 pub mod Capped
 pub mod Signs

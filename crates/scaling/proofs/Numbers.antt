@@ -15,13 +15,13 @@ use Rattle.scan.proofs.Runs.{run-le, run-all, run-stops}
 use Rattle.buffer.specs.Digits.{decimal}
 use Rattle.buffer.proofs.Decimals.{last, more}
 use Rattle.grammar.specs.Values.{digitValue, numberFrom}
-use Rattle.scaling.specs.Figures.{figure, significant, idle, figures, lastEnd}
+use Rattle.scaling.specs.Digits.{isDigit, significant, insignificant, digitsOf, lastEnd}
 use Rattle.scaling.specs.Scaled.{part}
-use Rattle.scaling.proofs.Figures.{figure-ends, not-idle, is-idle, last-idle, significant-ends, significant-figure, significant-within, figures-append, last-append, last-behind}
+use Rattle.scaling.proofs.Digits.{digit-ends, not-insignificant, is-insignificant, last-insignificant, significant-ends, significant-digit, significant-within, digits-append, last-append, last-behind}
 
 -- the number of digits behind a number a
 abbrev pub count : ℕ → List ℕ → ℕ
-count a s = numberFrom 10 a (figures s)
+count a s = numberFrom 10 a (digitsOf s)
 
 pub value : (b : ℕ) → 48 ≤ b → b ≤ 57 → digitValue b ≡ b - 48
 unfolding digitValue
@@ -32,22 +32,22 @@ from-append a [] t = refl
 from-append a (b ∷ s) t = from-append (a * 10 + digitValue b) s t
 
 pub count-append : (a : ℕ) (s t : List ℕ) → count a (s ++ t) ≡ count (count a s) t
-count-append a s t = rw figures-append (from-append a (figures s) (figures t))
+count-append a s t = rw digits-append (from-append a (digitsOf s) (digitsOf t))
 
 -- a digit that is not significant is `0`
-zero-digit : (b : ℕ) → figure b ≡ true → idle b ≡ true → b ≡ 48
+zero-digit : (b : ℕ) → isDigit b ≡ true → insignificant b ≡ true → b ≡ 48
 zero-digit b f t =
-    let e = figure-ends b f in
-    by-lt 48 b (λ l. clash (significant-within b (omega arith) (omega arith)) (not-idle b t)) (λ l. omega arith)
+    let e = digit-ends b f in
+    by-lt 48 b (λ l. clash (significant-within b (omega arith) (omega arith)) (not-insignificant b t)) (λ l. omega arith)
 
 -- digits that are not significant are a power of ten
-pub count-idle : (a : ℕ) (s : List ℕ) → All idle s → count a s ≡ a * 10 ^ length (figures s)
-count-idle a [] h = sym (mul-one a)
-count-idle a (b ∷ s) h = by-test (figure b) refl (count-idle a s (h .1)) (count-idle (a * 10 + digitValue b) s (h .1))
+pub count-insignificant : (a : ℕ) (s : List ℕ) → All insignificant s → count a s ≡ a * 10 ^ length (digitsOf s)
+count-insignificant a [] h = sym (mul-one a)
+count-insignificant a (b ∷ s) h = by-test (isDigit b) refl (count-insignificant a s (h .1)) (count-insignificant (a * 10 + digitValue b) s (h .1))
   where
-    by-test : (x : Bool) → figure b ≡ x → count a s ≡ a * 10 ^ length (figures s)
-        → count (a * 10 + digitValue b) s ≡ (a * 10 + digitValue b) * 10 ^ length (figures s)
-        → numberFrom 10 a (cond x (b ∷ figures s) (figures s)) ≡ a * 10 ^ length (cond x (b ∷ figures s) (figures s))
+    by-test : (x : Bool) → isDigit b ≡ x → count a s ≡ a * 10 ^ length (digitsOf s)
+        → count (a * 10 + digitValue b) s ≡ (a * 10 + digitValue b) * 10 ^ length (digitsOf s)
+        → numberFrom 10 a (cond x (b ∷ digitsOf s) (digitsOf s)) ≡ a * 10 ^ length (cond x (b ∷ digitsOf s) (digitsOf s))
     by-test false x e g = e
     by-test true x e g =
         let z = zero-digit b x (h .0) in
@@ -64,10 +64,10 @@ count-last a (b ∷ s) =
     cond-in (λ (n : ℕ). 0 < n → 0 < count a (take n (b ∷ s)) % 10) (significant b)
     (λ t h.
     let g = significant-ends b t in
-    rw (significant-figure b t, value b (omega arith) (omega arith)) (omega arith))
+    rw (significant-digit b t, value b (omega arith) (omega arith)) (omega arith))
     (λ t h. absurd (omega arith)))
     (λ e h.
-    cond-in (λ (u : List ℕ). 0 < numberFrom 10 a u % 10) (figure b)
+    cond-in (λ (u : List ℕ). 0 < numberFrom 10 a u % 10) (isDigit b)
     (λ t. count-last (a * 10 + digitValue b) s (omega arith)) (λ t. count-last a s (omega arith)))
 
 -- ---- digits without a leading zero are the decimal digits of their number
@@ -78,26 +78,26 @@ decimal-step a d p h =
     let r : (a * 10 + d) % 10 ≡ d = omega arith in
     more (a * 10 + d) (omega arith) ∙ rw (q, r)
 
-after : (a : ℕ) (s : List ℕ) → 0 < a → decimal (count a s) ≡ decimal a ++ figures s
+after : (a : ℕ) (s : List ℕ) → 0 < a → decimal (count a s) ≡ decimal a ++ digitsOf s
 after a [] p = sym (append-nil _)
-after a (b ∷ s) p = by-test (figure b) refl (after a s p) (after (a * 10 + digitValue b) s (omega arith))
+after a (b ∷ s) p = by-test (isDigit b) refl (after a s p) (after (a * 10 + digitValue b) s (omega arith))
   where
-    by-test : (x : Bool) → figure b ≡ x → decimal (count a s) ≡ decimal a ++ figures s
-        → decimal (count (a * 10 + digitValue b) s) ≡ decimal (a * 10 + digitValue b) ++ figures s
-        → decimal (numberFrom 10 a (cond x (b ∷ figures s) (figures s))) ≡ decimal a ++ cond x (b ∷ figures s) (figures s)
+    by-test : (x : Bool) → isDigit b ≡ x → decimal (count a s) ≡ decimal a ++ digitsOf s
+        → decimal (count (a * 10 + digitValue b) s) ≡ decimal (a * 10 + digitValue b) ++ digitsOf s
+        → decimal (numberFrom 10 a (cond x (b ∷ digitsOf s) (digitsOf s))) ≡ decimal a ++ cond x (b ∷ digitsOf s) (digitsOf s)
     by-test false x e g = e
     by-test true x e g =
-        let h = figure-ends b x in
+        let h = digit-ends b x in
         let v = value b (h .0) (h .1) in
         let k : 48 + (b - 48) ≡ b = omega arith in
-        g ∙ rw v (ap (λ (t : List ℕ). t ++ figures s) (decimal-step a (b - 48) p (omega arith)) ∙ append-assoc (decimal a) _ (figures s) ∙ rw k)
+        g ∙ rw v (ap (λ (t : List ℕ). t ++ digitsOf s) (decimal-step a (b - 48) p (omega arith)) ∙ append-assoc (decimal a) _ (digitsOf s) ∙ rw k)
 
-pub decimal-only : (b : ℕ) (s : List ℕ) → significant b ≡ true → decimal (count 0 (b ∷ s)) ≡ figures (b ∷ s)
+pub decimal-only : (b : ℕ) (s : List ℕ) → significant b ≡ true → decimal (count 0 (b ∷ s)) ≡ digitsOf (b ∷ s)
 decimal-only b s t =
     let h = significant-ends b t in
     let v : 0 * 10 + digitValue b ≡ b - 48 = zero-add (digitValue b) ∙ value b (omega arith) (omega arith) in
     let k : 48 + (b - 48) ≡ b = omega arith in
-    rw (significant-figure b t)
+    rw (significant-digit b t)
     (ap (λ (n : ℕ). decimal (count n s)) v ∙ after (b - 48) s (omega arith) ∙ rw (last (b - 48) (omega arith), k))
 
 -- ---- the whole mantissa
@@ -105,60 +105,60 @@ decimal-only b s t =
 -- what the text between the first and the last significant digit is, in a mantissa m that has one
 pub record Middle (m : List ℕ) (first end : ℕ) : Type 0 where
   pub order : first ≤ end
-  pub digits : decimal (count 0 (part first end m)) ≡ figures (part first end m)
+  pub digits : decimal (count 0 (part first end m)) ≡ digitsOf (part first end m)
   pub ending : 0 < count 0 (part first end m) % 10
-  pub whole : count 0 m ≡ count 0 (part first end m) * 10 ^ length (figures (drop end m))
+  pub whole : count 0 m ≡ count 0 (part first end m) * 10 ^ length (digitsOf (drop end m))
 
 -- the rest from the first significant digit on
-from-first : (r : List ℕ) → Stops idle r → 0 < lastEnd r → decimal (count 0 (take (lastEnd r) r)) ≡ figures (take (lastEnd r) r)
+from-first : (r : List ℕ) → Stops insignificant r → 0 < lastEnd r → decimal (count 0 (take (lastEnd r) r)) ≡ digitsOf (take (lastEnd r) r)
 from-first [] g = λ h. absurd (omega arith)
 from-first (b ∷ r) g =
-    cond-eq (λ (n : ℕ). 0 < n → decimal (count 0 (take n (b ∷ r))) ≡ figures (take n (b ∷ r))) (lastEnd r) 0
-    (λ e. rw (is-idle b g) (λ h. decimal-only b [] (is-idle b g)))
-    (λ e h. decimal-only b (take (lastEnd r) r) (is-idle b g))
+    cond-eq (λ (n : ℕ). 0 < n → decimal (count 0 (take n (b ∷ r))) ≡ digitsOf (take n (b ∷ r))) (lastEnd r) 0
+    (λ e. rw (is-insignificant b g) (λ h. decimal-only b [] (is-insignificant b g)))
+    (λ e h. decimal-only b (take (lastEnd r) r) (is-insignificant b g))
 
-all-idle : (s : List ℕ) → All idle s → lastEnd s ≡ 0
-all-idle [] h = refl
-all-idle (b ∷ s) h = rw (all-idle s (h .1), not-idle b (h .0))
+all-insignificant : (s : List ℕ) → All insignificant s → lastEnd s ≡ 0
+all-insignificant [] h = refl
+all-insignificant (b ∷ s) h = rw (all-insignificant s (h .1), not-insignificant b (h .0))
 
 -- where there is no significant digit the number is zero
 pub no-last : (m : List ℕ) → lastEnd m ≡ 0 → count 0 m ≡ 0
-no-last m e = count-idle 0 m (rw e at (last-behind m)) ∙ zero-mul _
+no-last m e = count-insignificant 0 m (rw e at (last-behind m)) ∙ zero-mul _
 
-pub middle : (m : List ℕ) → 0 < lastEnd m → Middle m (run idle m) (lastEnd m)
+pub middle : (m : List ℕ) → 0 < lastEnd m → Middle m (run insignificant m) (lastEnd m)
 middle m h = record {
   order = omega (arith, ends);
-  digits = rw span (from-first r (run-stops idle m) some);
+  digits = rw span (from-first r (run-stops insignificant m) some);
   ending = rw span (count-last 0 r some);
   whole = rw (span, back) whole;
 }
   where
     a : List ℕ
-    a = take (run idle m) m
+    a = take (run insignificant m) m
 
     r : List ℕ
-    r = drop (run idle m) m
+    r = drop (run insignificant m) m
 
     split : a ++ r ≡ m
-    split = take-append-drop (run idle m) m
+    split = take-append-drop (run insignificant m) m
 
-    len : length a ≡ run idle m
-    len = length-take-le (run idle m) m (run-le idle m)
+    len : length a ≡ run insignificant m
+    len = length-take-le (run insignificant m) m (run-le insignificant m)
 
     some : 0 < lastEnd r
-    some = by-lt 0 (lastEnd r) (λ l. l) (λ l. absurd (omega (arith, ap lastEnd split, last-idle a r (omega arith), all-idle a (run-all idle m))))
+    some = by-lt 0 (lastEnd r) (λ l. l) (λ l. absurd (omega (arith, ap lastEnd split, last-insignificant a r (omega arith), all-insignificant a (run-all insignificant m))))
 
-    ends : lastEnd m ≡ run idle m + lastEnd r
+    ends : lastEnd m ≡ run insignificant m + lastEnd r
     ends = ap lastEnd (sym split) ∙ last-append a r some ∙ rw len
 
-    span : part (run idle m) (lastEnd m) m ≡ take (lastEnd r) r
-    span = let e : lastEnd m - run idle m ≡ lastEnd r = omega (arith, ends) in rw e
+    span : part (run insignificant m) (lastEnd m) m ≡ take (lastEnd r) r
+    span = let e : lastEnd m - run insignificant m ≡ lastEnd r = omega (arith, ends) in rw e
 
     back : drop (lastEnd m) m ≡ drop (lastEnd r) r
-    back = rw ends (sym (drop-drop (lastEnd r) (run idle m) m))
+    back = rw ends (sym (drop-drop (lastEnd r) (run insignificant m) m))
 
-    whole : count 0 m ≡ count 0 (take (lastEnd r) r) * 10 ^ length (figures (drop (lastEnd r) r))
+    whole : count 0 m ≡ count 0 (take (lastEnd r) r) * 10 ^ length (digitsOf (drop (lastEnd r) r))
     whole =
-        ap (count 0) (sym split) ∙ count-append 0 a r ∙ ap (λ (n : ℕ). count n r) (count-idle 0 a (run-all idle m) ∙ zero-mul _)
+        ap (count 0) (sym split) ∙ count-append 0 a r ∙ ap (λ (n : ℕ). count n r) (count-insignificant 0 a (run-all insignificant m) ∙ zero-mul _)
         ∙ ap (count 0) (sym (take-append-drop (lastEnd r) r)) ∙ count-append 0 (take (lastEnd r) r) (drop (lastEnd r) r)
-        ∙ count-idle (count 0 (take (lastEnd r) r)) (drop (lastEnd r) r) (last-behind r)
+        ∙ count-insignificant (count 0 (take (lastEnd r) r)) (drop (lastEnd r) r) (last-behind r)

@@ -14,10 +14,10 @@ use Rattle.buffer.specs.Digits.{decimal}
 use Rattle.grammar.specs.Decimal.{Decimal, SameValue}
 use Rattle.form.specs.Reduced.{Reduced, reduce}
 use Rattle.form.proofs.Reduce.{same-iff, reduce-again}
-use Rattle.scaling.specs.Figures.{figures, idle, lastEnd}
+use Rattle.scaling.specs.Digits.{digitsOf, insignificant, lastEnd}
 use Rattle.scaling.specs.Scaled.{part, capped, Scales, scalingBy}
 use Rattle.scaling.specs.declared.Scaling.{Scaling}
-use Rattle.scaling.proofs.Figures.{figures-short, last-le}
+use Rattle.scaling.proofs.Digits.{digits-short, last-le}
 use Rattle.scaling.proofs.Capped.{capped-cases}
 use Rattle.scaling.proofs.Numbers.{count, Middle, middle, no-last}
 
@@ -46,7 +46,7 @@ module _ (d : Decimal) (c z : ℕ) (is : d .coef ≡ c * 10 ^ z) (ending : 0 < c
 
 -- what `scalingBy` of two powers finds of a number, where they are its own or both sides are too far
 module _ (m : List ℕ) (d : Decimal) (first end up down : ℕ) (some : 0 < d .coef) (inside : (first ≤ end) × (end ≤ length m))
-    (digits : figures (part first end m) ≡ decimal (reduce d .coef)) where
+    (digits : digitsOf (part first end m) ≡ decimal (reduce d .coef)) where
   pub scales-far : 1000000 < reduce d .up + reduce d .down → 1000000 < (up - down) + (down - up) → Scales m d (scalingBy first end up down)
   scales-far r f =
       cond-lt (λ (s : Scaling). Scales m d s) up down
@@ -70,16 +70,16 @@ module _ (m : List ℕ) (d : Decimal) (coef : d .coef ≡ count 0 m) where
 
   module _ (n p : ℕ) (h : 0 < lastEnd m) (short : length m ≤ 65536) (places : p ≤ length m) where
     abbrev z : ℕ
-    z = length (figures (drop (lastEnd m) m))
+    z = length (digitsOf (drop (lastEnd m) m))
 
     z-short : z ≤ 65536
-    z-short = omega (arith, figures-short (drop (lastEnd m) m), length-drop (lastEnd m) m)
+    z-short = omega (arith, digits-short (drop (lastEnd m) m), length-drop (lastEnd m) m)
 
-    mid : Middle m (run idle m) (lastEnd m)
+    mid : Middle m (run insignificant m) (lastEnd m)
     mid = middle m h
 
     abbrev c : ℕ
-    c = count 0 (part (run idle m) (lastEnd m) m)
+    c = count 0 (part (run insignificant m) (lastEnd m) m)
 
     is : reduce d ≡ record { coef = c; up = d .up + z - d .down; down = d .down - (d .up + z) }
     is = reduced d c z (coef ∙ mid .whole) (mid .ending)
@@ -89,10 +89,10 @@ module _ (m : List ℕ) (d : Decimal) (coef : d .coef ≡ count 0 m) where
         by-lt 0 (d .coef) (λ l. l)
         (λ l. absurd (omega (arith, mid .ending, no-product c (10 ^ z) (sym (mid .whole) ∙ sym coef ∙ omega arith) (one-le-pow z 10 (omega arith)))))
 
-    inside : (run idle m ≤ lastEnd m) × (lastEnd m ≤ length m)
+    inside : (run insignificant m ≤ lastEnd m) × (lastEnd m ≤ length m)
     inside = (mid .order, last-le m)
 
-    digits : figures (part (run idle m) (lastEnd m) m) ≡ decimal (reduce d .coef)
+    digits : digitsOf (part (run insignificant m) (lastEnd m) m) ≡ decimal (reduce d .coef)
     digits = sym (mid .digits) ∙ ap (λ (r : Decimal). decimal (r .coef)) (sym is)
 
     up-is : reduce d .up ≡ d .up + z - d .down
@@ -102,17 +102,17 @@ module _ (m : List ℕ) (d : Decimal) (coef : d .coef ≡ count 0 m) where
     down-is = ap (λ (r : Decimal). r .down) is
 
     -- an exponent without a minus sign
-    pub scales-up : d .up ≡ n → d .down ≡ p → Scales m d (scalingBy (run idle m) (lastEnd m) (capped n + z) p)
+    pub scales-up : d .up ≡ n → d .down ≡ p → Scales m d (scalingBy (run insignificant m) (lastEnd m) (capped n + z) p)
     scales-up u w =
         ⊎-elim
-        (λ e. scales-by m d (run idle m) (lastEnd m) (capped n + z) p some inside digits (omega (arith, up-is)) (omega (arith, down-is)))
-        (λ e. scales-far m d (run idle m) (lastEnd m) (capped n + z) p some inside digits (omega (arith, up-is)) (omega arith))
+        (λ e. scales-by m d (run insignificant m) (lastEnd m) (capped n + z) p some inside digits (omega (arith, up-is)) (omega (arith, down-is)))
+        (λ e. scales-far m d (run insignificant m) (lastEnd m) (capped n + z) p some inside digits (omega (arith, up-is)) (omega arith))
         (capped-cases n)
 
     -- with one
-    pub scales-down : d .up ≡ 0 → d .down ≡ n + p → Scales m d (scalingBy (run idle m) (lastEnd m) z (capped n + p))
+    pub scales-down : d .up ≡ 0 → d .down ≡ n + p → Scales m d (scalingBy (run insignificant m) (lastEnd m) z (capped n + p))
     scales-down u w =
         ⊎-elim
-        (λ e. scales-by m d (run idle m) (lastEnd m) z (capped n + p) some inside digits (omega (arith, up-is)) (omega (arith, down-is)))
-        (λ e. scales-far m d (run idle m) (lastEnd m) z (capped n + p) some inside digits (omega (arith, down-is, z-short)) (omega (arith, z-short)))
+        (λ e. scales-by m d (run insignificant m) (lastEnd m) z (capped n + p) some inside digits (omega (arith, up-is)) (omega (arith, down-is)))
+        (λ e. scales-far m d (run insignificant m) (lastEnd m) z (capped n + p) some inside digits (omega (arith, down-is, z-short)) (omega (arith, z-short)))
         (capped-cases n)

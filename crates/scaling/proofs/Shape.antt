@@ -24,23 +24,23 @@ use Rattle.grammar.specs.Notation.{begins}
 use Rattle.grammar.specs.Suffixes.{LOW}
 use Rattle.grammar.specs.Numbers.{SIGN}
 use Rattle.grammar.specs.Values.{digitValue, plain, numberFrom, numberIn}
-use Rattle.scaling.specs.Figures.{figure, figures}
+use Rattle.scaling.specs.Digits.{isDigit, digitsOf}
 use Rattle.scaling.specs.Scaled.{part, floatAt}
-use Rattle.scaling.proofs.Figures.{figure-within, figures-append}
+use Rattle.scaling.proofs.Digits.{digit-within, digits-append}
 use Rattle.scaling.proofs.Numbers.{count, value}
 
 -- ---- digits and `_`
 
 -- their digits are what is left without `_`
-figures-plain : (s : List ℕ) → All (digit 10) s → figures s ≡ plain s
-unfolding figure LOW
-figures-plain [] h = refl
-figures-plain (b ∷ s) h =
-    let e = figures-plain s (h .1) in
+digits-plain : (s : List ℕ) → All (digit 10) s → digitsOf s ≡ plain s
+unfolding isDigit LOW
+digits-plain [] h = refl
+digits-plain (b ∷ s) h =
+    let e = digits-plain s (h .1) in
     ⊎-elim (λ q. rw q e)
     (λ t.
     let g = dec-digit-ends b t in
-    rw (figure-within b (g .0) (g .1), ne-eqb b 95 (λ q. omega arith)) (ap (λ (u : List ℕ). b ∷ u) e))
+    rw (digit-within b (g .0) (g .1), ne-eqb b 95 (λ q. omega arith)) (ap (λ (u : List ℕ). b ∷ u) e))
     (digit-ten-cases b (h .0))
 
 plain-append : (s t : List ℕ) → plain (s ++ t) ≡ plain s ++ plain t
@@ -79,13 +79,13 @@ part-at a b c n k e g = rw (drop-at a (b ++ c) n e) (take-at b c (k - n) (omega 
 pub record Shape (s : List ℕ) (i f e : ℕ) : Type 0 where
   pub order : (i ≤ f) × ((f ≤ e) × (e ≤ length s))
   pub coef : floatAt s i f e .coef ≡ count 0 (take f s)
-  pub places : length (plain (part (i + 1) f s)) ≡ length (figures (part i f s))
+  pub places : length (plain (part (i + 1) f s)) ≡ length (digitsOf (part i f s))
   pub exponent : All (digit 10) (cond (begins SIGN (part (f + 1) e s)) (drop 1 (part (f + 1) e s)) (part (f + 1) e s))
 
 -- what stands behind the period, and it has the fraction's digits
 fraction-part : (a b c : List ℕ) → Fraction b → let n = length a in
-    figures b ≡ plain (part (n + 1) (n + length b) (a ++ (b ++ c)))
-unfolding figure
+    digitsOf b ≡ plain (part (n + 1) (n + length b) (a ++ (b ++ c)))
+unfolding isDigit
 fraction-part a b c (no-fraction e) =
     let q : length a + length b - (length a + 1) ≡ 0 = omega (arith, ap length e) in
     rw (q, e)
@@ -93,7 +93,7 @@ fraction-part a b c (fraction ds e all st) =
     let w : a ++ (b ++ c) ≡ (a ++ (46 ∷ [])) ++ (ds ++ c) = rw (e, append-assoc) in
     let p : part (length a + 1) (length a + length b) (a ++ (b ++ c)) ≡ ds =
     rw w (part-at (a ++ (46 ∷ [])) ds c (length a + 1) (length a + length b) (simp length-append) (omega (arith, ap length e))) in
-    rw (p, e) (figures-plain ds all)
+    rw (p, e) (digits-plain ds all)
 
 -- behind the sign, if there is one
 behind-sign : (sign ds : List ℕ) → Sign sign → All (digit 10) ds → All (digit 10) (cond (begins SIGN (sign ++ ds)) (drop 1 (sign ++ ds)) (sign ++ ds))
@@ -120,7 +120,7 @@ tiled : (w b x c : List ℕ) → All (digit 10) w → Fraction b → Exponent x 
 unfolding floatAt numberIn
 tiled w b x c h fr ex e q = record {
   order = (omega arith, (omega arith, simp length-append (omega arith)));
-  coef = rw (whole, front, figures-append, plain-append, figures-plain w h, ← fraction-part w b (x ++ c) fr);
+  coef = rw (whole, front, digits-append, plain-append, digits-plain w h, ← fraction-part w b (x ++ c) fr);
   places = rw (frac, ← fraction-part w b (x ++ c) fr);
   exponent = rw q (rw (length-append, append-assoc) at (exponent-part (w ++ b) x c ex));
 }

@@ -14,9 +14,9 @@ use Rattle.integer.specs.Value.{number}
 use Rattle.float.specs.Float.{floatRead}
 use Rattle.grammar.specs.Notation.{begins, byte}
 use Rattle.grammar.specs.Values.{numberIn}
-use Rattle.scaling.specs.Figures.{idle, figures, lastEnd}
+use Rattle.scaling.specs.Digits.{insignificant, digitsOf, lastEnd}
 use Rattle.scaling.specs.Scaled.{part, floatAt, capped, Scales, scalingBy, exponentStart}
-use Rattle.scaling.proofs.Figures.{figures-short, last-le}
+use Rattle.scaling.proofs.Digits.{digits-short, last-le}
 use Rattle.scaling.proofs.Signs.{unsigned}
 use Rattle.scaling.proofs.Reducing.{scales-zero, scales-up, scales-down}
 use Rattle.scaling.proofs.Shape.{Shape, shape, same-number}
@@ -53,21 +53,21 @@ module _ (s : List ℕ) (i f e : ℕ) (fits : length s ≤ 65536) (read : floatR
   digits = unsigned (part (f + 1) e s)
 
   abbrev places : ℕ
-  places = length (figures (part i f s))
+  places = length (digitsOf (part i f s))
 
   short : places ≤ length (take f s)
-  short = omega (arith, figures-short (part i f s), length-take (f - i) (drop i s), mantissa-length)
+  short = omega (arith, digits-short (part i f s), length-take (f - i) (drop i s), mantissa-length)
 
   -- the first and the last significant digit as they were found, the zeros behind them and the fraction's digits, and the exponent
   module _ (last first start n z p : ℕ) (negative : Bool) (last-is : last ≡ lastEnd (take f s)) (there : last ≡ 0 → ⊥)
-      (first-is : first ≡ run idle (take f s)) (zeros-are : z ≡ length (figures (part last f s))) (places-are : p ≡ places)
+      (first-is : first ≡ run insignificant (take f s)) (zeros-are : z ≡ length (digitsOf (part last f s))) (places-are : p ≡ places)
       (start-is : start ≡ exponentStart f e) (minus-is : negative ≡ begins (byte 45) (part start e s))
       (size-is : n ≡ capped (number 10 (unsigned (part start e s)))) where
     some : 0 < lastEnd (take f s)
     some = by-lt 0 (lastEnd (take f s)) (λ l. l) (λ l. absurd (there (omega arith)))
 
-    zeros : length (figures (drop (lastEnd (take f s)) (take f s))) ≡ z
-    zeros = rw (zeros-are, last-is) (ap (λ (u : List ℕ). length (figures u)) (drop-take (lastEnd (take f s)) f s))
+    zeros : length (digitsOf (drop (lastEnd (take f s)) (take f s))) ≡ z
+    zeros = rw (zeros-are, last-is) (ap (λ (u : List ℕ). length (digitsOf u)) (drop-take (lastEnd (take f s)) f s))
 
     exponent-is : part start e s ≡ part (f + 1) e s
     exponent-is = rw start-is (exponent-there f e s)

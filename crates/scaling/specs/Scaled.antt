@@ -6,12 +6,14 @@ use mathlib.Core.List.{List, _∷_, _++_}
 use Prim.Native.Nat.{ℕ, _+_, _-_, _≤_, _<_}
 use lib.Dec.{leb, ltb}
 use lib.ListN.{length, take, drop}
+use Rattle.err.specs.Outcome.{accepted, ends}
 use Rattle.err.specs.declared.FloatLit.{FloatLit}
 use Rattle.buffer.specs.Digits.{decimal}
 use Rattle.grammar.specs.Decimal.{Decimal}
 use Rattle.grammar.specs.Values.{powered}
+use Rattle.float.specs.Float.{floatRead}
 use Rattle.form.specs.Reduced.{reduce}
-use Rattle.scaling.specs.Figures.{figures}
+use Rattle.scaling.specs.Digits.{digitsOf}
 use Rattle.scaling.specs.declared.Scaled.{Scaled}
 use Rattle.scaling.specs.declared.Scaling.{Scaling}
 use Rattle.scaling.specs.declared.Scaling.the-variants as scaling
@@ -29,6 +31,12 @@ floatAt s i f e = powered (part 0 i s) (part (i + 1) f s) (part (f + 1) e s)
 abbrev pub numberOf : List ℕ → FloatLit → Decimal
 numberOf s l = floatAt s (l .«end_integer_part») (l .«end_fractional_part») (l .«end_number_part»)
 
+-- a text within its limit that litrs reads as a float with these ends
+abbrev pub FloatOf : List ℕ → FloatLit → Type 0
+FloatOf s l =
+    (length s ≤ 65536)
+    × (floatRead s ≡ accepted 3 (l .«end_number_part») (ends (l .«end_integer_part») (l .«end_fractional_part») (l .«end_number_part»)))
+
 -- no exponent that is above 2,000,000 can be mended by the 65,536 digits of a text; all of them are told as one
 unfoldable pub capped : ℕ → ℕ
 capped n = cond (leb n 2000000) n 2000001
@@ -41,7 +49,7 @@ near d = leb (reduce d .up + reduce d .down) 1000000
 pub record ScaledTo (m : List ℕ) (d : Decimal) (r : Scaled) : Type 0 where
   pub some : 0 < d .coef
   pub inside : (r .first ≤ r .last) × (r .last ≤ length m)
-  pub digits : figures (part (r .first) (r .last) m) ≡ decimal (reduce d .coef)
+  pub digits : digitsOf (part (r .first) (r .last) m) ≡ decimal (reduce d .coef)
   pub up : reduce d .up ≡ cond (r .negative) 0 (r .power)
   pub down : reduce d .down ≡ cond (r .negative) (r .power) 0
   pub sign : r .negative ≡ true → 0 < r .power
@@ -69,7 +77,7 @@ powerForm r = 101 ∷ cond (r .negative) (45 ∷ decimal (r .power)) (decimal (r
 
 -- m, `e`, k
 abbrev pub scaledForm : List ℕ → Scaled → List ℕ
-scaledForm m r = figures (part (r .first) (r .last) m) ++ powerForm r
+scaledForm m r = digitsOf (part (r .first) (r .last) m) ++ powerForm r
 
 -- the length of a float's form, or that its power is too far
 pub data Length : Type 0 where

@@ -6,17 +6,15 @@ ghost use mathlib.Core.Path.{_≡_};
 ghost use mathlib.Core.Bool.{true, cond};
 ghost use Prim.Native.Nat.{_+_, _-_, _≤_, _<_};
 ghost use lib.ListN.{length, take, drop};
-ghost use Rattle.err.specs.Outcome.{accepted, ends};
 ghost use Rattle.scan.specs.Run.{run};
 ghost use Rattle.buffer.specs.Buffer.{Wrote};
 ghost use Rattle.grammar.specs.Notation.{begins, byte};
 ghost use Rattle.grammar.specs.Numbers.{SIGN};
 ghost use Rattle.integer.specs.Value.{number};
-ghost use Rattle.float.specs.Float.{floatRead};
 ghost use Rattle.form.specs.Reduced.{reduce};
 ghost use Rattle.form.specs.Form.{reducedForm};
-ghost use Rattle.scaling.specs.Figures.{figure, significant, idle, figures, lastEnd};
-ghost use Rattle.scaling.specs.Scaled.{numberOf, capped, near, Scales, scalingBy, exponentStart, powerForm, scaledForm, known, too-far, lengthOf};
+ghost use Rattle.scaling.specs.Digits.{isDigit, significant, insignificant, digitsOf, lastEnd};
+ghost use Rattle.scaling.specs.Scaled.{numberOf, FloatOf, capped, near, Scales, scalingBy, exponentStart, powerForm, scaledForm, known, too-far, lengthOf};
 
 // Where the digits of the reduced number stand in the mantissa, and its power of ten.
 pub struct Scaled {
@@ -44,8 +42,8 @@ pub struct Exponent {
     pub size: u64,
 }
 
-fn is_figure(b: u8) -> bool
-    ensures { λ r. ⌜ r ≡ figure b ⌝ }
+fn is_digit(b: u8) -> bool
+    ensures { λ r. ⌜ r ≡ isDigit b ⌝ }
 {
     if b < b'0' {
         return false;
@@ -64,7 +62,7 @@ fn is_significant(b: u8) -> bool
 
 // How many bytes stand before the first significant digit.
 fn lead_len(s: &[u8]) -> usize
-    ensures { λ r. ⌜ r ≡ run idle (now (s .entry)) ⌝ }
+    ensures { λ r. ⌜ r ≡ run insignificant (now (s .entry)) ⌝ }
 {
     let mut i = 0;
     while i < s.len() {
@@ -90,36 +88,84 @@ fn last_end(s: &[u8]) -> usize
     0
 }
 
-// How many digits there are.
-fn figures_len(s: &[u8]) -> usize
-    ensures { λ r. ⌜ (r ≡ length (figures (now (s .entry)))) × (r ≤ length (now (s .entry))) ⌝ }
+fn one(b: u8) -> u8
+    ensures { λ r. ⌜ (r ≤ 1) × (r ≡ cond (isDigit b) 1 0) ⌝ }
 {
-    let mut n: usize = 0;
+    if is_digit(b) { 1 } else { 0 }
+}
+
+// How many of at most 255 bytes are digits. With no exit on the way and a sum of one byte the compiler makes vectors of it.
+fn count(s: &[u8]) -> u8
+    requires { ⌜ length (now s) ≤ 255 ⌝ }
+    ensures { λ r. ⌜ r ≡ length (digitsOf (now (s .entry))) ⌝ }
+{
+    let mut n: u8 = 0;
     let mut i = 0;
     while i < s.len() {
-        if is_figure(s[i]) {
-            n += 1;
-        }
+        n += one(s[i]);
         i += 1;
     }
     n
 }
 
-// The digits, without what stands among them.
-fn put_figures(out: &mut [u8], s: &[u8]) -> usize
-    requires { ⌜ length (figures (now s)) ≤ length (now out) ⌝ }
-    ensures { λ r. ⌜ Wrote (figures (now (s .entry))) r (now (out .entry)) (now (out .exit)) ⌝ }
+// How many digits there are, by blocks of 64 bytes.
+fn digits_len(s: &[u8]) -> usize
+    ensures { λ r. ⌜ (r ≡ length (digitsOf (now (s .entry)))) × (r ≤ length (now (s .entry))) ⌝ }
+{
+    let mut n: usize = 0;
+    let mut i = 0;
+    while 64 <= s.len() - i {
+        let e = i + 64;
+        n += count(&s[i..e]) as usize;
+        i = e;
+    }
+    n + count(&s[i..]) as usize
+}
+
+fn byte_end(s: &[u8], from: usize) -> usize
+    requires { ⌜ from ≤ length (now s) ⌝ }
+    ensures { λ r. ⌜ r ≡ from + run isDigit (drop from (now (s .entry))) ⌝ }
+{
+    let mut i = from;
+    while i < s.len() {
+        if !is_digit(s[i]) {
+            return i;
+        }
+        i += 1;
+    }
+    i
+}
+
+// Where the digits that stand at an offset end: by blocks while there are 64 bytes, then byte by byte.
+fn digits_end(s: &[u8], from: usize) -> usize
+    requires { ⌜ from ≤ length (now s) ⌝ }
+    ensures { λ r. ⌜ r ≡ from + run isDigit (drop from (now (s .entry))) ⌝ }
+{
+    let mut i = from;
+    while 64 <= s.len() - i {
+        let e = i + 64;
+        if count(&s[i..e]) != 64 {
+            return byte_end(s, i);
+        }
+        i = e;
+    }
+    byte_end(s, i)
+}
+
+// The digits, without what stands among them: each run of them at once.
+fn put_digits(out: &mut [u8], s: &[u8]) -> usize
+    requires { ⌜ length (digitsOf (now s)) ≤ length (now out) ⌝ }
+    ensures { λ r. ⌜ Wrote (digitsOf (now (s .entry))) r (now (out .entry)) (now (out .exit)) ⌝ }
 {
     let mut at: usize = 0;
     let mut i = 0;
     while i < s.len() {
-        let b = s[i];
-        i += 1;
-        if !is_figure(b) {
-            continue;
+        let e = digits_end(s, i);
+        at += buffer::put_bytes(&mut out[at..], &s[i..e]);
+        if e == s.len() {
+            return at;
         }
-        out[at] = b;
-        at += 1;
+        i = e + 1;
     }
     at
 }
@@ -185,7 +231,7 @@ fn to_power(first: usize, last: usize, up: u64, down: u64) -> Scaling
 
 // The reduced number of a float that was read from the text.
 fn scale(text: &[u8], lit: FloatLit) -> Scaling
-    requires { ⌜ (length (now text) ≤ 65536) × (floatRead (now text) ≡ accepted 3 (lit .«end_number_part») (ends (lit .«end_integer_part») (lit .«end_fractional_part») (lit .«end_number_part»))) ⌝ }
+    requires { ⌜ FloatOf (now text) lit ⌝ }
     ensures { λ r. ⌜ Scales (take (lit .«end_fractional_part») (now (text .entry))) (numberOf (now (text .entry)) lit) r ⌝ }
 {
     let whole = lit.end_integer_part;
@@ -196,8 +242,8 @@ fn scale(text: &[u8], lit: FloatLit) -> Scaling
         return Scaling::Zero;
     }
     let first = lead_len(mantissa);
-    let zeros = figures_len(&text[last..end]) as u64;
-    let places = figures_len(&text[whole..end]) as u64;
+    let zeros = digits_len(&text[last..end]) as u64;
+    let places = digits_len(&text[whole..end]) as u64;
     let stop = lit.end_number_part;
     let start = exponent_start(end, stop);
     let ex = exponent_of(&text[start..stop]);
@@ -225,7 +271,7 @@ fn scaled_len(mantissa: &[u8], r: Scaled) -> usize
 {
     let first = r.first;
     let last = r.last;
-    let n = figures_len(&mantissa[first..last]) + 1 + buffer::decimal_len(r.power);
+    let n = digits_len(&mantissa[first..last]) + 1 + buffer::decimal_len(r.power);
     if r.negative {
         return n + 1;
     }
@@ -251,13 +297,13 @@ fn put_scaled(out: &mut [u8], mantissa: &[u8], r: Scaled) -> usize
 {
     let first = r.first;
     let last = r.last;
-    let at = put_figures(out, &mantissa[first..last]);
+    let at = put_digits(out, &mantissa[first..last]);
     at + put_power(&mut out[at..], r)
 }
 
 // How long the form of a float is without its suffix, or that its power is too far.
 pub fn float_len(text: &[u8], lit: FloatLit) -> FormLen
-    requires { ⌜ (length (now text) ≤ 65536) × (floatRead (now text) ≡ accepted 3 (lit .«end_number_part») (ends (lit .«end_integer_part») (lit .«end_fractional_part») (lit .«end_number_part»))) ⌝ }
+    requires { ⌜ FloatOf (now text) lit ⌝ }
     ensures { λ r. ⌜ lengthOf r ≡ cond (near (numberOf (now (text .entry)) lit)) (known (length (reducedForm (reduce (numberOf (now (text .entry)) lit))))) too-far ⌝ }
 {
     let scaling = scale(text, lit);
@@ -271,7 +317,7 @@ pub fn float_len(text: &[u8], lit: FloatLit) -> FormLen
 
 // The form of a float without its suffix, where its power is near; so `TooFar` cannot arise.
 pub fn put_float(out: &mut [u8], text: &[u8], lit: FloatLit) -> usize
-    requires { ⌜ ((length (now text) ≤ 65536) × (floatRead (now text) ≡ accepted 3 (lit .«end_number_part») (ends (lit .«end_integer_part») (lit .«end_fractional_part») (lit .«end_number_part»)))) × ((near (numberOf (now text) lit) ≡ true) × (length (reducedForm (reduce (numberOf (now text) lit))) ≤ length (now out))) ⌝ }
+    requires { ⌜ FloatOf (now text) lit × ((near (numberOf (now text) lit) ≡ true) × (length (reducedForm (reduce (numberOf (now text) lit))) ≤ length (now out))) ⌝ }
     ensures { λ n. ⌜ Wrote (reducedForm (reduce (numberOf (now (text .entry)) lit))) n (now (out .entry)) (now (out .exit)) ⌝ }
 {
     let scaling = scale(text, lit);

@@ -1,8 +1,8 @@
 -- `same` is equality of lists, and how a loop that compares goes on.
 -- Assumes nothing.
-use mathlib.Core.Path.{_≡_, refl, sym, ap, _∙_}
+use mathlib.Core.Path.{_≡_, refl, ap}
 use mathlib.Core.Logic.{_↔_}
-use mathlib.Core.Bool.{Bool, true, false, cond, _&&_}
+use mathlib.Core.Bool.{Bool, true, false, _&&_}
 use mathlib.Core.List.{List, [], _∷_}
 use Prim.Native.Nat.{ℕ, suc, _+_, _≤_, _<_}
 use native.Mathlib.Numerals.{add-one}
@@ -32,13 +32,28 @@ same-eq (a ∷ s) (b ∷ t) h = by-test (same-eq s t) (eqb a b) refl h
 pub same-right : (s t : List ℕ) → (same s t ≡ true) ↔ (s ≡ t)
 same-right s t = (same-eq s t, λ e. rw e (same-refl t))
 
--- of other lengths
-pub same-lengths : (s t : List ℕ) → (length s ≡ length t → ⊥) → same s t ≡ false
-same-lengths s t h = by-test (same s t) refl
+-- not of lists that differ: in length, or in a byte
+pub same-ne : (s t : List ℕ) → (s ≡ t → ⊥) → same s t ≡ false
+same-ne s t h = by-test (same s t) refl
   where
     by-test : (x : Bool) → same s t ≡ x → x ≡ false
-    by-test true e = absurd (h (ap length (same-eq s t e)))
+    by-test true e = absurd (h (same-eq s t e))
     by-test false e = refl
+
+pub same-lengths : (s t : List ℕ) → (length s ≡ length t → ⊥) → same s t ≡ false
+same-lengths s t h = same-ne s t (λ e. h (ap length e))
+
+pub same-differs : (s t : List ℕ) (i : ℕ) → (getD s i 0 ≡ getD t i 0 → ⊥) → same s t ≡ false
+same-differs s t i h = same-ne s t (λ e. h (ap (λ (l : List ℕ). getD l i 0) e))
+
+-- the bytes of s from i on are those of t
+abbrev pub bytesFrom : List ℕ → ℕ → List ℕ → Bool
+bytesFrom s i [] = true
+bytesFrom s i (b ∷ t) = eqb (getD s i 0) b && bytesFrom s (suc i) t
+
+pub same-bytes : (s : List ℕ) (i : ℕ) (t : List ℕ) → length s ≡ i + length t → same (drop i s) t ≡ bytesFrom s i t
+same-bytes s i [] h = rw (drop-of-length-le s {i = i} (omega arith))
+same-bytes s i (b ∷ t) h = rw (drop-cons s i 0 (omega arith)) (ap (λ (x : Bool). eqb (getD s i 0) b && x) (same-bytes s (suc i) t (omega arith)))
 
 -- ---- a loop that stands at i has found the bytes before it equal
 

@@ -1,14 +1,19 @@
 -- Measure, form and buffer of a reading, by the form without its suffix.
 -- Assumes nothing.
 use mathlib.Core.Path.{_≡_, refl, sym, ap, _∙_}
-use mathlib.Core.Bool.{Bool, true, false, cond}
-use mathlib.Core.List.{List, _++_}
-use Prim.Native.Nat.{ℕ, _+_, _-_, _≤_, _<_}
+use mathlib.Core.Bool.{Bool, true, false, cond, and-eq-true-iff}
+use mathlib.Core.List.{List, [], _++_}
+use Prim.Native.Nat.{ℕ, _+_, _-_, _*_, _≤_, _<_}
 use native.Mathlib.Omega.{arith}
-use borrow.Author.Tests.{le-leb, lt-leb}
+use borrow.Author.Tests.{le-leb, lt-leb, leb-true}
 use lib.Dec.{eqb, leb}
 use lib.ListN.{length, drop, length-append, length-drop}
 use Rattle.err.specs.Outcome.{Place, none, Outcome, refused, accepted}
+use Rattle.err.specs.Reading.{outcomeOf}
+use Rattle.err.specs.declared.StringLit.{StringLit}
+use Rattle.err.specs.declared.Reading.{Reading}
+use Rattle.err.specs.declared.Reading.the-variants as reading
+use Rattle.scan.proofs.Cases.{clash}
 use Rattle.buffer.specs.Buffer.{over}
 use Rattle.grammar.specs.Meaning.{Worth}
 use Rattle.grammar.specs.Meaning as worth
@@ -19,12 +24,18 @@ use Rattle.integer.specs.Value.{within}
 use Rattle.integer.specs.declared.Within.the-variants.{Number, Over}
 use Rattle.utf8.specs.Utf8.{Scalar, encode}
 use Rattle.quoting.specs.Styled.{styledForm, styledForms}
-use Rattle.quoting.proofs.Styles.{char-style, byte-style}
+use Rattle.quoting.proofs.Styles.{char-style, byte-style, forms-short}
 use Rattle.scaling.specs.Scaled.{near, Length, known, too-far}
+use Rattle.string.specs.String.{stringValue}
+use Rattle.string.specs.declared.Kind.{Kind}
+use Rattle.string.specs.declared.Kind.the-variants.{Text, Bytes, C}
+use Rattle.string.proofs.Literals.{value-length}
+use Rattle.string_form.specs.Strings.{worthIn, wideIn}
+use Rattle.string_form.proofs.Bare.{read-length, opening-short}
 use Rattle.literal.specs.Readings.{readAt}
-use Rattle.settle.proofs.Readings.{short, start}
+use Rattle.settle.proofs.Readings.{short, utf8, start, stringIn, string-read}
 use Rattle.settle.specs.Worths.{worthOf}
-use Rattle.settle.specs.Settled.{Settle, formed, withheld, measured, measureOf, measureAt, settleAt, formBy, formAt, bufferAt, BareForm, len, bad, bareLen, bareBy, bareFormBy, kindIn, suffixIn, Roomy, Fits}
+use Rattle.settle.specs.Settled.{Settle, formed, withheld, measured, measureOf, measureAt, settleAt, formBy, formAt, bufferAt, BareForm, len, bad, bareLen, bareBy, bareFormBy, kindIn, suffixIn, Roomy, Fits, fitsFor, roomyBy}
 
 -- a length is no refusal, and a form none
 pub no-len {ℓ} : {A : Type ℓ} {n m : ℕ} {p : Place} → bad m p ≡ len n → A
@@ -108,11 +119,12 @@ module _ (s : List ℕ) where
         measure-by o e ∙ rw (le-leb (length (formBy s o)) 65536 (omega (arith, form-count o e))) (ap (formed (kindIn o)) (sym (form-count o e)))
 
   -- what is measured can be written into a buffer that is as long
-  pub formed-fits : (o : Outcome) {k n have : ℕ} → measureOf s o ≡ formed k n → n ≤ have → Fits s o have × (n ≡ length (formBy s o))
+  pub formed-fits : (o : Outcome) {k n have : ℕ} → measureOf s o ≡ formed k n → n ≤ have
+      → Fits s o have × (formed (kindIn o) (length (formBy s o)) ≡ measureOf s o)
   formed-fits (refused m q) e h = no-form e
   formed-fits (accepted k start vs) e h =
       let f = formed-by (worthOf k s vs) (drop start s) e in
-      (record { form = f .0; room = omega (arith, f .1) }, f .1)
+      (record { form = f .0; room = omega (arith, f .1) }, rw (e, f .1, f .2))
 
   pub fits-both : (o : Outcome) {have : ℕ} → Fits s o have → length (bareFormBy s o) + length (drop (suffixIn o) s) ≤ have
   fits-both o f = omega (arith, length-append (bareFormBy s o) (drop (suffixIn o) s), ap length (form-split o (f .form)), f .room)
@@ -161,6 +173,53 @@ char-length v x sc = rw (char-style 39 v sc, length-append) (omega arith)
 
 pub byte-length : (b : ℕ) (x : List ℕ) → 3 + length (styledForm false 39 b) ≡ length (bareForm (worth.byte b) x)
 byte-length b x = rw (byte-style 39 b, length-append) (omega arith)
+
+-- ---- strings, whose forms have at most four bytes for each of the value's, quotes and a letter
+
+pub fits-sum : (n m have : ℕ) → fitsFor n m have ≡ true → (4 * n + 3 + m ≤ 65536) × (4 * n + 3 + m ≤ have)
+unfolding fitsFor
+fits-sum n m have e =
+    let t = and-eq-true-iff (leb (4 * n + 3 + m) 65536) (leb (4 * n + 3 + m) have) .0 e in
+    (leb-true _ _ (t .0), leb-true _ _ (t .1))
+
+module _ (s : List ℕ) (have : ℕ) where
+  string-form : (k : Kind) (lit : StringLit) → let o = stringIn k lit in
+      (bareFormBy s o ≡ bareForm (worthIn k (stringValue k s)) []) × (bareBy s o ≡ len (length (bareFormBy s o)))
+  string-form Text lit = (refl, sym (plain-bare (worth.string _) _ refl))
+  string-form Bytes lit = (refl, sym (plain-bare (worth.byte-string _) _ refl))
+  string-form C lit = (refl, sym (plain-bare (worth.c-string _) _ refl))
+
+  string-fits : (k : Kind) (lit : StringLit) → let o = stringIn k lit in o ≡ readAt 0 s → roomyBy (length s) o have ≡ true
+      → Fits s o have × (formed (kindIn o) (length (formBy s o)) ≡ measureOf s o)
+  string-fits k lit is e =
+      let o = stringIn k lit in
+      let v = stringValue k s in
+      let r = string-read s k lit is in
+      let f = string-form k lit in
+      let m = fits-sum (lit .«value_len») (length s - lit .«start_suffix») have e in
+      let short : length (bareFormBy s o) ≤ 4 * lit .«value_len» + 3 =
+      omega (
+        arith,
+        ap length (f .0),
+        read-length k s lit (utf8 s is) r,
+        opening-short k,
+        forms-short (wideIn k) 34 v,
+        value-length k s (sym r),
+      ) in
+      formed-fits s o (measure-formed s o (f .1) (omega (arith, m .0))) (omega (arith, m .1))
+
+  -- THE LAW: a reading that is roomy has a form that fits, so that neither 47 nor 48 comes
+  pub roomy-fits : (found : Reading) → let o = outcomeOf found in o ≡ readAt 0 s → roomyBy (length s) o have ≡ true
+      → Fits s o have × (formed (kindIn o) (length (formBy s o)) ≡ measureOf s o)
+  roomy-fits (reading.String lit) is e = string-fits Text lit is e
+  roomy-fits (reading.ByteString lit) is e = string-fits Bytes lit is e
+  roomy-fits (reading.CString lit) is e = string-fits C lit is e
+  roomy-fits (reading.Refused k p) is e = clash e refl
+  roomy-fits (reading.Bool lit) is e = clash e refl
+  roomy-fits (reading.Integer lit) is e = clash e refl
+  roomy-fits (reading.Float lit) is e = clash e refl
+  roomy-fits (reading.Char lit) is e = clash e refl
+  roomy-fits (reading.Byte lit) is e = clash e refl
 
 -- ---- integers and floats, which may have none
 

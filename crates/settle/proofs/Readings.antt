@@ -6,14 +6,13 @@ use mathlib.Core.List.{List}
 use Prim.Native.Nat.{ℕ, _≤_}
 use native.Mathlib.Omega.{arith}
 use lib.ListN.{length}
-use Rattle.err.specs.Outcome.{Values, Outcome, accepted, truth}
-use Rattle.err.specs.Reading.{outcomeOf}
+use Rattle.err.specs.Outcome.{Values, Outcome, accepted, truth, decoded}
+use Rattle.err.specs.Reading.{hashesOf, outcomeOf}
 use Rattle.err.specs.declared.BoolLit.{BoolLit}
 use Rattle.err.specs.declared.IntegerLit.{IntegerLit}
 use Rattle.err.specs.declared.FloatLit.{FloatLit}
 use Rattle.err.specs.declared.CharLit.{CharLit}
 use Rattle.err.specs.declared.StringLit.{StringLit}
-use Rattle.err.specs.declared.Reading.{Reading}
 use Rattle.err.specs.declared.Reading.the-variants as reading
 use Rattle.scan.specs.Same.{same}
 use Rattle.scan.proofs.Cases.{cond-in}
@@ -26,7 +25,7 @@ use Rattle.integer.proofs.Suffixed.{never}
 use Rattle.integer.proofs.Values.{read-ends}
 use Rattle.float.specs.Float.{floatRead}
 use Rattle.character.proofs.Values.{char-value}
-use Rattle.string.specs.String.{stringRead}
+use Rattle.string.specs.String.{kindOf, stringRead}
 use Rattle.string.specs.declared.Kind.{Kind}
 use Rattle.string.specs.declared.Kind.the-variants.{Text, Bytes, C}
 use Rattle.literal.specs.Readings.{entryRead, readAt}
@@ -53,10 +52,8 @@ module _ (s : List ℕ) {k e : ℕ} {vs : Values} (is : accepted k e vs ≡ read
 -- ---- by kind
 
 -- the three kinds with decoded bytes
-abbrev pub readingIn : Kind → StringLit → Reading
-readingIn Text lit = reading.String lit
-readingIn Bytes lit = reading.ByteString lit
-readingIn C lit = reading.CString lit
+abbrev pub stringIn : Kind → StringLit → Outcome
+stringIn k lit = accepted (kindOf k) (lit .«start_suffix») (decoded (hashesOf (lit .hashes)) (lit .«value_len»))
 
 -- the text of a bool is its form
 bool-form : (s x : List ℕ) (t : Bool) {k e : ℕ} → boolRead s ≡ accepted k e (truth t) → bareForm (worth.bool t) x ≡ s
@@ -87,7 +84,7 @@ module _ (s : List ℕ) where
   unfolding entryRead
   char-scalar lit is = char-value s (own s is)
 
-  pub string-read : (k : Kind) (lit : StringLit) → outcomeOf (readingIn k lit) ≡ readAt 0 s → outcomeOf (readingIn k lit) ≡ stringRead k s
+  pub string-read : (k : Kind) (lit : StringLit) → stringIn k lit ≡ readAt 0 s → stringIn k lit ≡ stringRead k s
   unfolding entryRead
   string-read Text lit is = sym (own s is)
   string-read Bytes lit is = sym (own s is)

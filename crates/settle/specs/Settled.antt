@@ -1,12 +1,12 @@
 -- What measuring and settling answer, and what the lent buffer holds then (01, The settled form; Order: "then 45 or 46, 47, 48").
 -- Assumes nothing.
-use mathlib.Core.Bool.{cond}
+use mathlib.Core.Bool.{Bool, false, cond, _&&_}
 use mathlib.Core.List.{List, []}
 use mathlib.Core.Path.{_≡_}
-use Prim.Native.Nat.{ℕ, _≤_}
+use Prim.Native.Nat.{ℕ, _+_, _-_, _*_, _≤_}
 use lib.Dec.{eqb, leb}
 use lib.ListN.{length, drop}
-use Rattle.err.specs.Outcome.{Place, none, Outcome, refused, accepted}
+use Rattle.err.specs.Outcome.{Place, none, truth, digits, ends, value, decoded, Outcome, refused, accepted}
 use Rattle.err.specs.Numbers.{numberOf}
 use Rattle.err.specs.Reading.{placeOf}
 use Rattle.buffer.specs.Buffer.{over}
@@ -110,3 +110,16 @@ pub record Roomy (s : List ℕ) (o : Outcome) (have : ℕ) : Type 0 where
 pub record Fits (s : List ℕ) (o : Outcome) (have : ℕ) : Type 0 where
   pub form : bareBy s o ≡ len (length (bareFormBy s o))
   pub room : length (formBy s o) ≤ have
+
+-- a value of n bytes, each at most four in a form, with quotes and letter, and a suffix of m bytes fit into a form and into `have` bytes
+unfoldable pub fitsFor : ℕ → ℕ → ℕ → Bool
+fitsFor n m have = leb (4 * n + 3 + m) 65536 && leb (4 * n + 3 + m) have
+
+-- so do those of a reading of a text of `size` bytes: only strings are judged so
+abbrev pub roomyBy : ℕ → Outcome → ℕ → Bool
+roomyBy size (accepted k e (decoded r n)) have = fitsFor n (size - e) have
+roomyBy size (accepted k e (truth b)) have = false
+roomyBy size (accepted k e (digits b i j)) have = false
+roomyBy size (accepted k e (ends i f j)) have = false
+roomyBy size (accepted k e (value v)) have = false
+roomyBy size (refused n p) have = false

@@ -25,7 +25,7 @@ ghost use Rattle.form.specs.Form.{bareForm};
 ghost use Rattle.integer.specs.Value.{within, number};
 ghost use Rattle.scaling.specs.Scaled.{part};
 ghost use Rattle.literal.specs.Readings.{readAt};
-ghost use Rattle.settle.specs.Settled.{settledOf, measureOf, measureAt, settleAt, bufferAt, bareOf, bareBy, bareFormBy, formBy, kindIn, suffixIn, Roomy, Fits};
+ghost use Rattle.settle.specs.Settled.{settledOf, measureOf, measureAt, settleAt, bufferAt, bareOf, bareBy, bareFormBy, formBy, kindIn, suffixIn, Roomy, Fits, fitsFor, roomyBy};
 
 // A form's kind and length, or why there is none.
 pub enum Settled {
@@ -229,20 +229,53 @@ pub fn measure(text: &[u8]) -> Settled
     measure_of(text, found)
 }
 
-// A text's settled form, written to the front of out: measured first, so that a refusal leaves every byte of out as it came.
+// Whether a value of so many bytes, each at most four in a form, and a suffix behind it fit for sure.
+fn fits(value_len: usize, rest: usize, have: usize) -> bool
+    ensures { λ r. ⌜ r ≡ fitsFor «value_len» rest have ⌝ }
+{
+    if 65536 < value_len {
+        return false;
+    }
+    if 65536 < rest {
+        return false;
+    }
+    let n = 4 * value_len + 3 + rest;
+    if 65536 < n {
+        return false;
+    }
+    n <= have
+}
+
+// Whether a string's form fits for sure: then it need not be measured before it is written.
+fn is_roomy(text: &[u8], found: Reading, have: usize) -> bool
+    requires { ⌜ outcomeOf found ≡ readAt 0 (now text) ⌝ }
+    ensures { λ r. ⌜ r ≡ roomyBy (length (now (text .entry))) (outcomeOf found) have ⌝ }
+{
+    match found {
+        Reading::String(lit) => fits(lit.value_len, text.len() - lit.start_suffix, have),
+        Reading::ByteString(lit) => fits(lit.value_len, text.len() - lit.start_suffix, have),
+        Reading::CString(lit) => fits(lit.value_len, text.len() - lit.start_suffix, have),
+        _ => false,
+    }
+}
+
+// A text's settled form, written to the front of out: measured first where it might not fit, so that a refusal leaves every byte of out
+// as it came.
 pub fn settle(text: &[u8], out: &mut [u8]) -> Settled
     ensures { λ r. ⌜ settledOf r ≡ settleAt (now (text .entry)) (length (now (out .entry))) ⌝ }
     ensures { λ r. ⌜ now (out .exit) ≡ bufferAt (now (text .entry)) (now (out .entry)) ⌝ }
     ensures { λ r. ⌜ now (text .exit) ≡ now (text .entry) ⌝ }
 {
     let found = literal::read(0, text);
-    let measure = measure_of(text, found);
-    let Settled::Formed(kind, n) = measure else {
-        return measure;
-    };
-    if out.len() < n {
-        return Settled::Refused(ParseErrorKind::OutTooSmall, Span::Nowhere);
+    if !is_roomy(text, found, out.len()) {
+        let measure = measure_of(text, found);
+        let Settled::Formed(_, n) = measure else {
+            return measure;
+        };
+        if out.len() < n {
+            return Settled::Refused(ParseErrorKind::OutTooSmall, Span::Nowhere);
+        }
     }
-    put_reading(out, text, found);
-    Settled::Formed(kind, n)
+    let n = put_reading(out, text, found);
+    Settled::Formed(kind_of(found), n)
 }

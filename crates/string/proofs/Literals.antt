@@ -5,7 +5,7 @@ use mathlib.Core.List.{List, [], _∷_}
 use Prim.Native.Nat.{ℕ, zero, suc, _+_, _≤_}
 use native.Mathlib.Omega.{arith}
 use lib.Dec.{eqb}
-use lib.ListN.{length, getD, take, drop, length-take, length-drop}
+use lib.ListN.{length, getD, take, drop, length-take, length-drop, drop-of-length-le}
 use Rattle.err.specs.Outcome.{Place, Outcome, refused, accepted, Rawness, notRaw, raw, truth, digits, ends, value, decoded}
 use Rattle.err.specs.Reading.{hashesOf}
 use Rattle.err.specs.declared.Hashes.the-variants.{NotRaw, Raw}
@@ -22,18 +22,20 @@ use Rattle.body.proofs.Within.{step-in, raw-in}
 use Rattle.body.proofs.Bodies as bodies
 use Rattle.body.proofs.Strings.{suffix-good, suffix-bad}
 use Rattle.body.proofs.Raws.{raw-value}
+use Rattle.body.proofs.Values.{as-it-stands}
 use Rattle.string.specs.String.{offsetOf, allowedIn, openingBy, openingAt, startFault, ofQuote, parsedOf, readBy, stringRead, hashesAt, valueBy, stringValue}
 use Rattle.string.specs.declared.Kind.{Kind}
 use Rattle.string.specs.declared.Kind.the-variants.{Text, Bytes, C}
 use Rattle.string.specs.declared.Opening.{Opening}
 use Rattle.string.specs.declared.Opening.the-variants as opening
 
--- of a quoted literal of the text s, whose value v has n bytes
-pub record QuotedLit (k : Kind) (s v : List ℕ) (n : ℕ) : Type 0 where
-  pub inside : offsetOf k ≤ length s
+-- of a quoted literal of the text s, whose value v has n bytes and whose suffix starts at e: a body of n bytes too is the value
+pub record QuotedLit (k : Kind) (s v : List ℕ) (n e : ℕ) : Type 0 where
+  pub inside : offsetOf k + n ≤ length s
   pub value : v ≡ body (allowedIn k) (drop (offsetOf k) s) .value
   pub count : n ≡ length v
-  pub short : n ≤ length s
+  pub none : n ≡ 0 → v ≡ []
+  pub as-is : offsetOf k + n + 1 ≡ e → v ≡ take n (drop (offsetOf k) s)
 
 -- of a raw one with h hashes: its value is the slice behind them and the quote
 pub record RawLit (k : Kind) (s v : List ℕ) (h n : ℕ) : Type 0 where
@@ -42,13 +44,13 @@ pub record RawLit (k : Kind) (s v : List ℕ) (h n : ℕ) : Type 0 where
   pub value : v ≡ take n (drop (offsetOf k + h + 1) s)
   pub count : n ≡ length v
 
-abbrev pub Literal : Kind → List ℕ → List ℕ → Rawness → ℕ → Type 0
-Literal k s v notRaw n = QuotedLit k s v n
-Literal k s v (raw h) n = RawLit k s v h n
+abbrev pub Literal : Kind → List ℕ → List ℕ → Rawness → ℕ → ℕ → Type 0
+Literal k s v notRaw n e = QuotedLit k s v n e
+Literal k s v (raw h) n e = RawLit k s v h n
 
 -- what holds of an accepted outcome
-abbrev pub Accepts : (Rawness → ℕ → Type 0) → Outcome → Type 0
-Accepts P (accepted kind e (decoded r n)) = P r n
+abbrev pub Accepts : (Rawness → ℕ → ℕ → Type 0) → Outcome → Type 0
+Accepts P (accepted kind e (decoded r n)) = P r n e
 Accepts P (accepted kind e (truth b)) = Unit {0}
 Accepts P (accepted kind e (digits b m n)) = Unit {0}
 Accepts P (accepted kind e (ends l m n)) = Unit {0}
@@ -70,14 +72,15 @@ opening-inside C (b ∷ a ∷ s) h = omega arith
 
 -- ---- what is read of a body
 
-no-start : (k : Kind) (P : Rawness → ℕ → Type 0) → Accepts P (startFault k)
+no-start : (k : Kind) (P : Rawness → ℕ → ℕ → Type 0) → Accepts P (startFault k)
 no-start Text P = tt
 no-start Bytes P = tt
 no-start C P = tt
 
 module _ (k : Kind) (s : List ℕ) where
-  -- whatever the suffix, an accepted literal has its body's hashes and length
-  after-end : (P : Rawness → ℕ → Type 0) (r : Rawness) (at n : ℕ) (e : End) → P r n → Accepts P (ofQuote k (afterEnd s r at n e))
+  -- whatever the suffix, an accepted literal has its body's hashes and length, and its suffix starts behind what closes it
+  after-end : (P : Rawness → ℕ → ℕ → Type 0) (r : Rawness) (at n : ℕ) (e : End) → P r n (at + closing r)
+      → Accepts P (ofQuote k (afterEnd s r at n e))
   after-end P r at n (refuse num p) h = tt
   after-end P r at n close h = go _ (suffix-good s r (at + closing r) n _ refl) (suffix-bad s r (at + closing r) n _ refl)
     where
@@ -87,16 +90,18 @@ module _ (k : Kind) (s : List ℕ) where
       go (suc f) good bad = rw (← bad (λ e. omega arith)) tt
 
   quoted-is : offsetOf k ≤ length s
-      → let v = body (allowedIn k) (drop (offsetOf k) s) .value in QuotedLit k s v (length v)
+      → let b = body (allowedIn k) (drop (offsetOf k) s) in QuotedLit k s (b .value) (length (b .value)) (offsetOf k + b .at + 1)
   quoted-is inside =
       let d : List ℕ = drop (offsetOf k) s in
+      let b : Body = body (allowedIn k) d in
       let good = step-in (allowedIn k) in
       let short = bodies.value-short (stepOf (allowedIn k)) 1 good d in
       record {
-        inside = inside;
+        inside = omega (arith, bodies.ends-in (stepOf (allowedIn k)) 1 good d .0, length-drop (offsetOf k) s);
         value = refl;
         count = refl;
-        short = omega (arith, bodies.ends-in (stepOf (allowedIn k)) 1 good d .0, length-drop (offsetOf k) s);
+        none = λ g. drop-of-length-le (b .value) {i = 0} (omega arith);
+        as-is = λ g. let l : length (b .value) ≡ b .at = omega arith in rw l (as-it-stands (allowedIn k) d l);
       }
 
   raw-is : (h : ℕ) → h ≡ hashesAt s (offsetOf k) → offsetOf k + h + 1 ≤ length s
@@ -140,11 +145,11 @@ literal k [] = tt
 literal k (b ∷ s) = by-opening k (b ∷ s) (openingAt k (b ∷ s)) (opening-inside k (b ∷ s))
 
 -- of a literal that was read
-pub read-is : (k : Kind) (s : List ℕ) {kind e : ℕ} {r : Rawness} {n : ℕ} → stringRead k s ≡ accepted kind e (decoded r n) → Literal k s (stringValue k s) r n
+pub read-is : (k : Kind) (s : List ℕ) {kind e : ℕ} {r : Rawness} {n : ℕ} → stringRead k s ≡ accepted kind e (decoded r n) → Literal k s (stringValue k s) r n e
 read-is k s g = rw g at (literal k s)
 
 module _ (k : Kind) (s : List ℕ) (lit : StringLit) (is : parsedOf k (answer.Lit lit) ≡ stringRead k s) where
-  pub quoted-lit : lit .hashes ≡ NotRaw → QuotedLit k s (stringValue k s) (lit .«value_len»)
+  pub quoted-lit : lit .hashes ≡ NotRaw → QuotedLit k s (stringValue k s) (lit .«value_len») (lit .«start_suffix»)
   quoted-lit e = rw (ap hashesOf e) at (read-is k s (sym is))
 
   pub raw-lit : {h : ℕ} → lit .hashes ≡ Raw h → RawLit k s (stringValue k s) h (lit .«value_len»)
@@ -153,12 +158,9 @@ module _ (k : Kind) (s : List ℕ) (lit : StringLit) (is : parsedOf k (answer.Li
 -- ---- the value's length
 
 module _ (k : Kind) (s : List ℕ) where
-  counted : (r : Rawness) (n : ℕ) → Literal k s (stringValue k s) r n → (n ≡ length (stringValue k s)) × (n ≤ length s)
-  counted notRaw n l = (l .count, l .short)
-  counted (raw h) n l = (l .count, omega (arith, l .inside))
+  counted : (r : Rawness) (n e : ℕ) → Literal k s (stringValue k s) r n e → n ≡ length (stringValue k s)
+  counted notRaw n e l = l .count
+  counted (raw h) n e l = l .count
 
   pub value-length : {kind e : ℕ} {r : Rawness} {n : ℕ} → stringRead k s ≡ accepted kind e (decoded r n) → n ≡ length (stringValue k s)
-  value-length {r = r} {n = n} g = counted r n (read-is k s g) .0
-
-  pub value-short : {kind e : ℕ} {r : Rawness} {n : ℕ} → stringRead k s ≡ accepted kind e (decoded r n) → n ≤ length s
-  value-short {r = r} {n = n} g = counted r n (read-is k s g) .1
+  value-length {e = e} {r = r} {n = n} g = counted r n e (read-is k s g)

@@ -7,7 +7,7 @@ use err::Span;
 use err::StringLit;
 use escape::Allowed;
 ghost use mathlib.Core.Path.{_≡_};
-ghost use Prim.Native.Nat.{_≤_};
+ghost use Prim.Native.Nat.{_≤_, _<_};
 ghost use lib.ListN.{length};
 ghost use Rattle.err.specs.Numbers.{numberOf};
 ghost use Rattle.err.specs.Reading.{outcomeOf};
@@ -124,7 +124,8 @@ fn quote_or_r(b: u8) -> Opening
 }
 
 // The literal that a text is, or why it is none.
-pub fn parse_lit(text: &[u8], k: Kind) -> Quoted
+fn parse_lit(text: &[u8], k: Kind) -> Quoted
+    requires { ⌜ length (now text) < 4294967296 ⌝ }
     ensures { λ r. ⌜ parsedOf k r ≡ stringRead k (now (text .entry)) ⌝ }
 {
     if text.len() == 0 {
@@ -139,6 +140,7 @@ pub fn parse_lit(text: &[u8], k: Kind) -> Quoted
 }
 
 pub fn parse(text: &[u8], k: Kind) -> Reading
+    requires { ⌜ length (now text) < 4294967296 ⌝ }
     ensures { λ r. ⌜ outcomeOf r ≡ stringRead k (now (text .entry)) ⌝ }
 {
     let lit = parse_lit(text, k);
@@ -154,43 +156,42 @@ pub enum Decoded {
     Refused(ParseErrorKind, Span),
 }
 
-// The value of a literal that was read from the text, written to the front of out.
+// The value of a literal that was read from the text, written to the front of out. It stands in the text as it is where it has as many
+// bytes as the body.
 fn put_value(out: &mut [u8], text: &[u8], k: Kind, lit: StringLit) -> usize
-    requires { ⌜ (parsedOf k (Quoted.Lit lit) ≡ stringRead k (now text)) × (lit .«value_len» ≤ length (now out)) ⌝ }
+    requires { ⌜ ((length (now text) < 4294967296) × (parsedOf k (Quoted.Lit lit) ≡ stringRead k (now text))) × (lit .«value_len» ≤ length (now out)) ⌝ }
     ensures { λ r. ⌜ Wrote (stringValue k (now (text .entry))) r (now (out .entry)) (now (out .exit)) ⌝ }
 {
     let from = k.offset();
     let hashes = lit.hashes;
     let n = lit.value_len;
     match hashes {
-        Hashes::NotRaw => body::write_value(out, &text[from..], k.allowed()),
+        Hashes::NotRaw => {
+            let end = from + n;
+            if end + 1 == lit.start_suffix {
+                return buffer::put_bytes(out, &text[from..end]);
+            }
+            if n == 0 {
+                return 0;
+            }
+            body::write_value(out, &text[from..], k.allowed())
+        }
         Hashes::Raw(h) => {
-            let start = from + wide(h) + 1;
+            let start = from + h as usize + 1;
             let end = start + n;
             buffer::put_bytes(out, &text[start..end])
         }
     }
 }
 
-fn wide(x: u8) -> usize
-    ensures { λ r. ⌜ r ≡ x ⌝ }
-{
-    x as usize
-}
-
-// The decoded bytes: measured first, so that a refusal leaves every byte of out as it came.
-pub fn decode(text: &[u8], k: Kind, out: &mut [u8]) -> Decoded
+// The decoded bytes of a literal that was read from the text: they are counted, so that a refusal leaves every byte of out as it came.
+pub fn decode(text: &[u8], k: Kind, lit: StringLit, out: &mut [u8]) -> Decoded
+    requires { ⌜ (length (now text) < 4294967296) × (parsedOf k (Quoted.Lit lit) ≡ stringRead k (now text)) ⌝ }
     ensures { λ r. ⌜ decodedOf r ≡ stringDecoded k (now (text .entry)) (length (now (out .entry))) ⌝ }
     ensures { λ r. ⌜ now (out .exit) ≡ bufferAfter k (now (text .entry)) (now (out .entry)) ⌝ }
 {
-    let lit = parse_lit(text, k);
-    match lit {
-        Quoted::Refused(kind, span) => Decoded::Refused(kind, span),
-        Quoted::Lit(l) => {
-            if out.len() < l.value_len {
-                return Decoded::Refused(ParseErrorKind::OutTooSmall, Span::Nowhere);
-            }
-            Decoded::Written(put_value(out, text, k, l))
-        }
+    if out.len() < lit.value_len {
+        return Decoded::Refused(ParseErrorKind::OutTooSmall, Span::Nowhere);
     }
+    Decoded::Written(put_value(out, text, k, lit))
 }

@@ -55,12 +55,6 @@ fn put_opening(out: &mut [u8], k: Kind) -> usize
     }
 }
 
-fn wide(x: u8) -> usize
-    ensures { λ r. ⌜ r ≡ x ⌝ }
-{
-    x as usize
-}
-
 // How long the value of a literal that was read from the text is in the form.
 fn value_len(text: &[u8], lit: StringLit, k: Kind) -> usize
     requires { ⌜ (length (now text) ≤ 65536) × (parsedOf k (answer.Lit lit) ≡ stringRead k (now text)) ⌝ }
@@ -70,9 +64,18 @@ fn value_len(text: &[u8], lit: StringLit, k: Kind) -> usize
     let hashes = lit.hashes;
     let n = lit.value_len;
     match hashes {
-        Hashes::NotRaw => quoting::body_len(&text[from..], k.allowed(), style_of(k)),
+        Hashes::NotRaw => {
+            let end = from + n;
+            if end + 1 == lit.start_suffix {
+                return quoting::forms_len(&text[from..end], style_of(k));
+            }
+            if n == 0 {
+                return 0;
+            }
+            quoting::body_len(&text[from..], k.allowed(), style_of(k))
+        }
         Hashes::Raw(h) => {
-            let start = from + wide(h) + 1;
+            let start = from + h as usize + 1;
             let end = start + n;
             quoting::forms_len(&text[start..end], style_of(k))
         }
@@ -80,16 +83,25 @@ fn value_len(text: &[u8], lit: StringLit, k: Kind) -> usize
 }
 
 fn put_value(out: &mut [u8], text: &[u8], lit: StringLit, k: Kind) -> usize
-    requires { ⌜ (parsedOf k (answer.Lit lit) ≡ stringRead k (now text)) × (length (styledForms (wideIn k) 34 (stringValue k (now text))) ≤ length (now out)) ⌝ }
+    requires { ⌜ ((length (now text) ≤ 65536) × (parsedOf k (answer.Lit lit) ≡ stringRead k (now text))) × (length (styledForms (wideIn k) 34 (stringValue k (now text))) ≤ length (now out)) ⌝ }
     ensures { λ r. ⌜ Wrote (styledForms (wideIn k) 34 (stringValue k (now (text .entry)))) r (now (out .entry)) (now (out .exit)) ⌝ }
 {
     let from = k.offset();
     let hashes = lit.hashes;
     let n = lit.value_len;
     match hashes {
-        Hashes::NotRaw => quoting::put_body(out, &text[from..], k.allowed(), style_of(k)),
+        Hashes::NotRaw => {
+            let end = from + n;
+            if end + 1 == lit.start_suffix {
+                return quoting::put_forms(out, &text[from..end], style_of(k));
+            }
+            if n == 0 {
+                return 0;
+            }
+            quoting::put_body(out, &text[from..], k.allowed(), style_of(k))
+        }
         Hashes::Raw(h) => {
-            let start = from + wide(h) + 1;
+            let start = from + h as usize + 1;
             let end = start + n;
             quoting::put_forms(out, &text[start..end], style_of(k))
         }
@@ -106,7 +118,7 @@ pub fn form_len(text: &[u8], lit: StringLit, k: Kind) -> usize
 
 // The form without its suffix: opening, value and closing quote, each behind the one before.
 pub fn put_form(out: &mut [u8], text: &[u8], lit: StringLit, k: Kind) -> usize
-    requires { ⌜ (Utf8 (now text) × (parsedOf k (answer.Lit lit) ≡ stringRead k (now text))) × (length (bareForm (worthIn k (stringValue k (now text))) []) ≤ length (now out)) ⌝ }
+    requires { ⌜ (((length (now text) ≤ 65536) × Utf8 (now text)) × (parsedOf k (answer.Lit lit) ≡ stringRead k (now text))) × (length (bareForm (worthIn k (stringValue k (now text))) []) ≤ length (now out)) ⌝ }
     ensures { λ r. ⌜ Wrote (bareForm (worthIn k (stringValue k (now (text .entry)))) []) r (now (out .entry)) (now (out .exit)) ⌝ }
 {
     let start = put_opening(out, k);

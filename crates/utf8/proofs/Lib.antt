@@ -2,6 +2,7 @@ pub mod First
 pub mod Laws
 pub mod Text
 pub mod At
+pub mod Ranges
 pub mod Valid
 pub mod Cuts
 pub mod Aligned

@@ -1,7 +1,7 @@
 -- The laws of texts that are UTF-8: their parts, their boundaries, their last character.
 -- Assumes nothing.
 use mathlib.Core.Path.{_≡_, refl, sym, ap, _∙_, subst}
-use mathlib.Core.Logic.{inl}
+use mathlib.Core.Logic.{inl, _↔_}
 use mathlib.Core.List.{List, [], _∷_, _++_, append-assoc, append-nil}
 use Prim.Native.Nat.{ℕ, zero, suc, _+_, _-_, _/_, _%_, _≤_, _<_}
 use native.Mathlib.Omega.{arith}
@@ -115,13 +115,18 @@ pub utf8-ascii : (b : ℕ) (r : List ℕ) → b < 0x80 → Utf8 r → Utf8 (b �
 utf8-ascii b r h u =
     subst (λ (l : List ℕ). Utf8 (l ++ r)) (is-row1 b h) (utf8-char b r (inl (omega arith)) u)
 
-pub utf8-all-ascii : (t : List ℕ) → ((k : ℕ) → k < length t → getD t k 0 < 0x80) → Utf8 t
-utf8-all-ascii [] h = utf8-nil
-utf8-all-ascii (b ∷ t) h = utf8-ascii b t (h 0 (omega arith)) (utf8-all-ascii t (λ k l. h (suc k) (omega arith)))
-
 pub utf8-behind-ascii : (b : ℕ) (r : List ℕ) → b < 0x80 → Utf8 (b ∷ r) → Utf8 r
 utf8-behind-ascii b r h u =
     utf8-rest b r (inl (omega arith)) (subst (λ (l : List ℕ). Utf8 (l ++ r)) (sym (is-row1 b h)) u)
+
+-- such bytes at the front change nothing
+pub utf8-front : (t : List ℕ) (n : ℕ) → ((k : ℕ) → k < n → getD t k 0 < 0x80) → Utf8 (drop n t) ↔ Utf8 t
+utf8-front t zero h = (λ u. u, λ u. u)
+utf8-front [] (suc n) h = (λ u. u, λ u. u)
+utf8-front (b ∷ t) (suc n) h =
+    let r = utf8-front t n (λ k l. h (suc k) (omega arith)) in
+    let a = h 0 (omega arith) in
+    (λ u. utf8-ascii b t a (r .0 u), λ u. r .1 (utf8-behind-ascii b t a u))
 
 -- ---- boundaries
 

@@ -11,13 +11,13 @@ use lib.ListN.{drop-of-length-le, getD, length, drop, length-append, length-drop
 use lib.Seq.{drop-at}
 use Rattle.scan.proofs.Cases.{clash}
 use Rattle.utf8.specs.Utf8.{Scalar, encode, Utf8, Boundary, LastChar}
-use Rattle.utf8.specs.Decode.{decode}
+use Rattle.utf8.specs.Decode.{decode, lenOf}
 use Rattle.utf8.specs.Valid.{charsWithin, isUtf8}
 use Rattle.utf8.specs.declared.Decoded.{Decoded}
 use Rattle.utf8.specs.declared.Decoded.the-variants.{Char, Bad}
 use Rattle.utf8.proofs.Laws.{encode-length, Found, decode-found}
-use Rattle.utf8.proofs.At.{found-utf8, bad-utf8}
-use Rattle.utf8.proofs.Text.{utf8-all-ascii, utf8-nil, utf8-one, utf8-char, utf8-rest, utf8-bad, utf8-append}
+use Rattle.utf8.proofs.At.{found-bounds, found-utf8, bad-utf8}
+use Rattle.utf8.proofs.Text.{utf8-front, utf8-nil, utf8-one, utf8-char, utf8-rest, utf8-bad, utf8-append}
 
 within-right : (k : ℕ) (t : List ℕ) → length t ≤ k → (charsWithin k t ≡ true) ↔ Utf8 t
 unfolding charsWithin
@@ -51,22 +51,33 @@ same-answer b t r = go b (isUtf8 t) r (isUtf8-right t)
     go false true f g = f .1 (g .0 refl)
     go false false f g = refl
 
+-- so it is the same of texts that are UTF-8 together
+same-test : (s t : List ℕ) → Utf8 s ↔ Utf8 t → isUtf8 s ≡ isUtf8 t
+same-test s t f = let r = isUtf8-right s in same-answer _ t (λ x. f .0 (r .0 x), λ u. r .1 (f .1 u))
+
 -- ---- the test along a text
 
 pub isUtf8-end : (t : List ℕ) (at : ℕ) → length t ≤ at → isUtf8 (drop at t) ≡ true
 isUtf8-end t at h = rw (drop-of-length-le t h) (isUtf8-right [] .1 utf8-nil)
 
-pub isUtf8-char : (t : List ℕ) (at s n : ℕ) → decode (drop at t) ≡ Char s n → isUtf8 (drop (at + n) t) ≡ isUtf8 (drop at t)
-isUtf8-char t at s n e =
-    let f = found-utf8 t at s n e in
-    let r = isUtf8-right (drop (at + n) t) in
-    same-answer _ _ (λ x. f .0 (r .0 x), λ u. r .1 (f .1 u))
+pub isUtf8-front : (t : List ℕ) (n : ℕ) → ((k : ℕ) → k < n → getD t k 0 < 0x80) → isUtf8 (drop n t) ≡ isUtf8 t
+isUtf8-front t n h = same-test _ _ (utf8-front t n h)
 
-pub isUtf8-bad : (t : List ℕ) (at : ℕ) → at < length t → decode (drop at t) ≡ Bad → isUtf8 (drop at t) ≡ false
-isUtf8-bad t at h e = sym (same-answer false _ (λ x. clash x refl, λ u. absurd (bad-utf8 t at h e u)))
+-- a character of n bytes is passed, and ends inside the text; where there is none, the text is not UTF-8 from there
+module _ (t : List ℕ) (at n : ℕ) (is : n ≡ lenOf (decode (drop at t))) where
+  pub isUtf8-char : (n ≡ 0 → ⊥) → (0 < n) × (at + n ≤ length t) × (isUtf8 (drop (at + n) t) ≡ isUtf8 (drop at t))
+  isUtf8-char some = go (decode (drop at t)) refl is
+    where
+      go : (d : Decoded) → decode (drop at t) ≡ d → n ≡ lenOf d → (0 < n) × (at + n ≤ length t) × (isUtf8 (drop (at + n) t) ≡ isUtf8 (drop at t))
+      go Bad e l = absurd (some l)
+      go (Char s m) e l = let b = found-bounds t at s m e in rw l (b .0, b .1, same-test _ _ (found-utf8 t at s m e))
 
-pub isUtf8-ascii : (t : List ℕ) → ((k : ℕ) → k < length t → getD t k 0 < 0x80) → isUtf8 t ≡ true
-isUtf8-ascii t h = isUtf8-right t .1 (utf8-all-ascii t h)
+  pub isUtf8-bad : at < length t → n ≡ 0 → isUtf8 (drop at t) ≡ false
+  isUtf8-bad h none = go (decode (drop at t)) refl is
+    where
+      go : (d : Decoded) → decode (drop at t) ≡ d → n ≡ lenOf d → isUtf8 (drop at t) ≡ false
+      go Bad e l = sym (same-answer false _ (λ x. clash x refl, λ u. absurd (bad-utf8 t at h e u)))
+      go (Char s m) e l = absurd (omega (arith, found-bounds t at s m e))
 
 -- ---- characters inside a text
 

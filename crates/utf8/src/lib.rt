@@ -4,7 +4,7 @@ ghost use Prim.Native.Nat.{ℕ, _≤_, _<_};
 ghost use lib.ListN.{length, getD, drop};
 ghost use Rattle.buffer.specs.Buffer.{Wrote};
 ghost use Rattle.utf8.specs.Utf8.{Scalar, encode};
-ghost use Rattle.utf8.specs.Decode.{lengthFrom, decode2, decode3, decode4, decode};
+ghost use Rattle.utf8.specs.Decode.{lengthFrom, decode2, decode3, decode4, decode, lenOf, PairAt};
 ghost use Rattle.utf8.specs.Valid.{isUtf8, largerOf, highestFrom};
 ghost use Rattle.utf8.specs.Cut.{tail, isBoundary, lastLen};
 
@@ -154,20 +154,121 @@ fn larger(a: u8, b: u8) -> u8
     if a < b { b } else { a }
 }
 
-// Whether a text is UTF-8. A text with no byte above 127 is, and needs no second look.
+// How many bytes at the front are below 128, or fewer: by blocks while there are 64 bytes, then the rest at once.
+fn ascii_front(text: &[u8]) -> usize
+    ensures { λ r. ⌜ (r ≤ length (now (text .entry))) × ((k : ℕ) → k < r → getD (now (text .entry)) k 0 < 0x80) ⌝ }
+{
+    let mut i = 0;
+    while 64 <= text.len() - i {
+        let e = i + 64;
+        if 127 < highest(&text[i..e]) {
+            return i;
+        }
+        i = e;
+    }
+    if highest(&text[i..]) < 128 {
+        return text.len();
+    }
+    i
+}
+
+// Whether a byte 10xxxxxx stands at an offset; behind the end there is none.
+fn has_tail(text: &[u8], at: usize) -> bool
+    ensures { λ r. ⌜ r ≡ tail (getD (now (text .entry)) at 0) ⌝ }
+{
+    if at < text.len() {
+        return is_tail(text[at]);
+    }
+    false
+}
+
+// How many bytes the character at an offset has, by its first byte, E0 to EF, and its second; 0 where there is none.
+fn three_len(text: &[u8], at: usize, first: u8, second: u8) -> usize
+    requires { ⌜ PairAt (now text) at first second × (0xE0 ≤ first) × (first < 0xF0) ⌝ }
+    ensures { λ r. ⌜ r ≡ lenOf (decode (drop at (now (text .entry)))) ⌝ }
+{
+    if !is_tail(second) {
+        return 0;
+    }
+    if first == 0xE0 {
+        if second < 0xA0 {
+            return 0;
+        }
+    }
+    if first == 0xED {
+        if 0x9F < second {
+            return 0;
+        }
+    }
+    if has_tail(text, at + 2) { 3 } else { 0 }
+}
+
+// The same for a first byte F0 to FF.
+fn four_len(text: &[u8], at: usize, first: u8, second: u8) -> usize
+    requires { ⌜ PairAt (now text) at first second × (0xF0 ≤ first) ⌝ }
+    ensures { λ r. ⌜ r ≡ lenOf (decode (drop at (now (text .entry)))) ⌝ }
+{
+    if 0xF4 < first {
+        return 0;
+    }
+    if !is_tail(second) {
+        return 0;
+    }
+    if first == 0xF0 {
+        if second < 0x90 {
+            return 0;
+        }
+    }
+    if first == 0xF4 {
+        if 0x8F < second {
+            return 0;
+        }
+    }
+    if !has_tail(text, at + 2) {
+        return 0;
+    }
+    if has_tail(text, at + 3) { 4 } else { 0 }
+}
+
+// How many bytes the character at an offset has, by the ranges of its first two bytes; 0 where there is none.
+fn valid_len(text: &[u8], at: usize) -> usize
+    requires { ⌜ at < length (now text) ⌝ }
+    ensures { λ r. ⌜ r ≡ lenOf (decode (drop at (now (text .entry)))) ⌝ }
+{
+    let first = text[at];
+    if first < 0x80 {
+        return 1;
+    }
+    if first < 0xC2 {
+        return 0;
+    }
+    if text.len() - at < 2 {
+        return 0;
+    }
+    let second = text[at + 1];
+    if first < 0xE0 {
+        if is_tail(second) {
+            return 2;
+        }
+        return 0;
+    }
+    if first < 0xF0 {
+        return three_len(text, at, first, second);
+    }
+    four_len(text, at, first, second)
+}
+
+// Whether a text is UTF-8: what is ASCII at the front is passed in blocks, the rest character by character.
 pub fn is_utf8(text: &[u8]) -> bool
     ensures { λ r. ⌜ r ≡ isUtf8 (now (text .entry)) ⌝ }
 {
-    if highest(text) < 128 {
-        return true;
-    }
-    let mut at = 0;
+    let mut at = ascii_front(text);
     while at < text.len() {
-        let d = decode_char(text, at);
-        let Decoded::Char { scalar: _, len } = d else {
+        let n = valid_len(text, at);
+        if n == 0 {
             return false;
-        };
-        at += len;
+        }
+        at += n;
     }
     true
 }

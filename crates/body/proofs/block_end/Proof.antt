@@ -3,11 +3,10 @@
 use borrow.Author.Needs.{needs}
 use Prim.Native.Nat.{_≤_, _+_, _-_}
 use mathlib.Core.Path.{_≡_, refl, sym, _∙_}
-use native.Mathlib.Omega.{arith}
 use lib.ListN.{length, drop}
 use Rattle.scan.specs.Run.{run}
 use Rattle.body.specs.Step.{plainByte}
-use Rattle.scan.proofs.Runs.{run-part}
+use Rattle.body.proofs.Blocks.{block-stop, block-past}
 use Rattle.body.proofs.block_end.Statement.{statement}
 use Rattle.body.proofs.block_end.Tie as tie
 
@@ -27,23 +26,26 @@ sub-loop c = search needs
 add-e : tie.Need-add-e Inv-loop μ-loop
 add-e c = search needs
 
-sub-marks : tie.Need-sub-marks Inv-loop μ-loop
-sub-marks c = search needs
+sub-block-run : tie.Need-sub-block-run Inv-loop μ-loop
+sub-block-run c = search needs
 
-part-marks-start : tie.Need-part-marks-start Inv-loop μ-loop
-part-marks-start c = search needs
+part-block-run-start : tie.Need-part-block-run-start Inv-loop μ-loop
+part-block-run-start c = search needs
 
-part-marks-end : tie.Need-part-marks-end Inv-loop μ-loop
-part-marks-end c = search needs
+part-block-run-end : tie.Need-part-block-run-end Inv-loop μ-loop
+part-block-run-end c = search needs
 
-marks-requires : tie.Need-marks-requires Inv-loop μ-loop
-marks-requires c κs = search needs
+block-run-requires : tie.Need-block-run-requires Inv-loop μ-loop
+block-run-requires c κs = search needs
 
-byte-run-requires : tie.Need-byte-run-requires Inv-loop μ-loop
-byte-run-requires c κs = search needs
+cast-result : tie.Need-cast-result Inv-loop μ-loop
+cast-result c = search needs
+
+add-result : tie.Need-add-result Inv-loop μ-loop
+add-result c = search needs
 
 returns : tie.Need-returns Inv-loop μ-loop
-returns c = c .byte-run .ensures ∙ c .before .before .before .before .before .loop .inv .1
+returns c = block-stop _ _ _ _ _ (c .before .block-run .ensures) (c .if1 .taken) ∙ c .before .before .before .before .loop .inv .1
 
 loop-less : tie.Need-loop-less Inv-loop μ-loop
 loop-less c = search needs
@@ -51,13 +53,13 @@ loop-less c = search needs
 loop-again : tie.Need-loop-again Inv-loop μ-loop
 loop-again c =
     let b = c .before .before .before in
-    (search needs, sym (run-part _ _ _ _ (sym (c .before .marks .ensures) ∙ c .if1 .left) (omega arith) (omega arith)) ∙ b .before .loop .inv .1)
+    (search needs, sym (block-past _ _ _ _ _ (c .before .block-run .ensures) (c .if1 .left)) ∙ b .before .loop .inv .1)
 
-byte-run-requires-2 : tie.Need-byte-run-requires-2 Inv-loop μ-loop
-byte-run-requires-2 c κs = search needs
+byte-run-requires : tie.Need-byte-run-requires Inv-loop μ-loop
+byte-run-requires c κs = search needs
 
 returns-2 : tie.Need-returns-2 Inv-loop μ-loop
-returns-2 c = c .byte-run2 .ensures ∙ c .before .before .loop .inv .1
+returns-2 c = c .byte-run .ensures ∙ c .before .before .loop .inv .1
 
 pub block-end-spec : {M : Type 1} → statement M
 block-end-spec =
@@ -68,13 +70,14 @@ block-end-spec =
     loop-holds
     sub-loop
     add-e
-    sub-marks
-    part-marks-start
-    part-marks-end
-    marks-requires
-    byte-run-requires
+    sub-block-run
+    part-block-run-start
+    part-block-run-end
+    block-run-requires
+    cast-result
+    add-result
     returns
     loop-less
     loop-again
-    byte-run-requires-2
+    byte-run-requires
     returns-2)

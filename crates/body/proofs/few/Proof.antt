@@ -3,11 +3,12 @@
 use borrow.Author.Needs.{needs}
 use Prim.Native.Nat.{_≤_, _+_, _-_}
 use mathlib.Core.Path.{_≡_, refl, sym, _∙_}
-use borrow.Author.Tests.{not-false}
+use native.Mathlib.Omega.{arith}
+use borrow.Author.Tests.{not-true, not-false}
 use lib.ListN.{length, drop}
 use Rattle.scan.specs.Run.{run}
 use Rattle.body.specs.Step.{plainByte}
-use Rattle.scan.proofs.Runs.{run-more}
+use Rattle.scan.proofs.Runs.{run-more, run-stop, run-end}
 use Rattle.body.proofs.few.Statement.{statement}
 use Rattle.body.proofs.few.Tie as tie
 
@@ -25,7 +26,7 @@ sub-if1 : tie.Need-sub-if1 Inv-loop μ-loop
 sub-if1 c = search needs
 
 returns : tie.Need-returns Inv-loop μ-loop
-returns c = search needs
+returns c = ((search needs, search needs, c .before .before .loop .inv .2), λ h. absurd (omega arith))
 
 shared-slice-read-is-plain : tie.Need-shared-slice-read-is-plain Inv-loop μ-loop
 shared-slice-read-is-plain c = search needs
@@ -34,7 +35,12 @@ is-plain-requires : tie.Need-is-plain-requires Inv-loop μ-loop
 is-plain-requires c κs = search needs
 
 returns-2 : tie.Need-returns-2 Inv-loop μ-loop
-returns-2 c = search needs
+returns-2 c =
+    let b = c .before .before .before .before in
+    let i = b .before .loop .inv in (
+      (search needs, search needs, i .2),
+      λ h. sym (run-stop _ _ _ (b .loop-test .taken) (sym (c .before .is-plain .ensures) ∙ not-true _ (c .if2 .taken))) ∙ i .2,
+    )
 
 add-i : tie.Need-add-i Inv-loop μ-loop
 add-i c = search needs
@@ -51,7 +57,9 @@ loop-again c =
     )
 
 returns-3 : tie.Need-returns-3 Inv-loop μ-loop
-returns-3 c = search needs
+returns-3 c =
+    let i = c .before .loop .inv in
+    ((search needs, search needs, i .2), λ h. sym (run-end _ _ _ (c .loop-test .left)) ∙ i .2)
 
 pub few-spec : {M : Type 1} → statement M
 few-spec =

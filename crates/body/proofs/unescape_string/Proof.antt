@@ -27,7 +27,7 @@ measure-requires : tie.Need-measure-requires
 measure-requires c κs = search needs
 
 after-body-requires : tie.Need-after-body-requires
-after-body-requires c κs = (refl, strings.fitting (stepOf (c .before .before .before .args .k)) 1 (step-in _) _ _ (c .before .before .before .pre) _ (is c))
+after-body-requires c κs = (refl, strings.fitting (stepOf (c .before .before .before .args .k)) 1 (step-in _) _ _ (c .before .before .before .pre .0) _ (is c))
 
 returns : tie.Need-returns
 returns c = c .after-body .ensures ∙ strings.measured _ _ _ _ _ (is (c .before)) ∙ strings.string-is _ _ _

@@ -6,172 +6,193 @@ use mathlib.Core.List.{List, [], _++_}
 use Prim.Native.Nat.{ℕ, _≤_, _<_, _-_, _+_}
 use native.Mathlib.Omega.{arith}
 use lib.ListN.{length, take, drop, length-append}
-use borrow.Rule.Slice.PartMut.{putMid}
+use Rattle.utf8.proofs.Cuts.{last-le}
 use Rattle.buffer.specs.Buffer.{Wrote}
 use Rattle.buffer.proofs.Laws as laws
 use Rattle.escape.specs.Escape.{bytesOf, Valid}
+use Rattle.escape.specs.Code.{codedLen}
 use Rattle.escape.specs.declared.Allowed.{Allowed}
-use Rattle.escape.specs.declared.Unescaped.{Unescaped}
-use Rattle.body.specs.Step.{piece, nextOf, stepOf, plainByte}
-use Rattle.body.specs.Body.{Body}
+use Rattle.body.specs.Step.{piece, stepOf, plainByte}
 use Rattle.body.proofs.Within.{step-in}
 use Rattle.body.proofs.Bodies as bodies
 use Rattle.body.proofs.Runs as runs
+use Rattle.body.proofs.Codes.{code-step, code-stops}
 use Rattle.body.proofs.write_value.Statement.{statement}
 use Rattle.body.proofs.write_value.Tie as tie
 
 -- what is passed stands for v, which is written
 abbrev Inv-loop : tie.InvT-loop
-Inv-loop out₀ s k last i₀ at₀ out i at = (v : List ℕ) × bodies.Passed (stepOf k) s i v × Wrote v at out₀ out
+Inv-loop out₀ s k end i₀ at₀ out i at = (v : List ℕ) × bodies.Passed (stepOf k) s i v × Wrote v at out₀ out
 
 abbrev μ-loop : tie.MeasureT-loop
-μ-loop out₀ s k last i₀ at₀ out i at = length s - i
+μ-loop out₀ s k end i₀ at₀ out i at = length s - i
 
--- where the run has ended: the text, its kind, the buffer as it came, the run, and what the passed bytes stand for
-abbrev text : tie.After-plain-end Inv-loop μ-loop → List ℕ
-text b = b .before .before .before .before .before .args .s .now
+-- the text, its kind, and the buffer as it came
+abbrev entry : tie.At-loop Inv-loop μ-loop → tie.Start Inv-loop μ-loop
+entry a = a .before .before .before .before
 
-abbrev kind : tie.After-plain-end Inv-loop μ-loop → Allowed
-kind b = b .before .before .before .before .before .args .k
+abbrev text : tie.At-loop Inv-loop μ-loop → List ℕ
+text a = entry a .args .s .now
 
-abbrev lent : tie.After-plain-end Inv-loop μ-loop → List ℕ
-lent b = b .before .before .before .before .before .args .out .now
+abbrev kind : tie.At-loop Inv-loop μ-loop → Allowed
+kind a = entry a .args .k
 
-abbrev passed : tie.After-plain-end Inv-loop μ-loop → List ℕ
-passed b = take (b .plain-end .result - b .before .loop .i) (drop (b .before .loop .i) (text b))
+abbrev lent : tie.At-loop Inv-loop μ-loop → List ℕ
+lent a = entry a .args .out .now
 
-abbrev so-far : tie.After-plain-end Inv-loop μ-loop → List ℕ
-so-far b = b .before .loop .inv .0 ++ passed b
+-- what is passed fits
+passed-fits : (a : tie.At-loop Inv-loop μ-loop) → length (a .loop .inv .0) ≤ length (lent a)
+passed-fits a = omega (arith, bodies.part _ 1 (step-in _) (a .loop .inv .1), entry a .pre .1)
 
-ran : (b : tie.After-plain-end Inv-loop μ-loop) → bodies.Passed (stepOf (kind b)) (text b) (b .plain-end .result) (so-far b)
-ran b = runs.passed-to (stepOf (kind b)) (plainByte (kind b)) (runs.plain-step _) _ (b .before .loop .inv .1) (b .plain-end .ensures)
+behind : (a : tie.At-loop Inv-loop μ-loop) → a .loop .at ≤ length (a .loop .out)
+behind a = laws.within (a .loop .inv .2) (passed-fits a)
 
-counted : (b : tie.After-plain-end Inv-loop μ-loop) → (b .before .loop .i ≤ b .plain-end .result)
-    × (b .plain-end .result ≤ length (text b))
-    × (length (so-far b) ≡ length (b .before .loop .inv .0) + (b .plain-end .result - b .before .loop .i))
-counted b = runs.counts (plainByte (kind b)) _ _ (b .before .loop .inv .0) _ (b .before .loop .inv .1 .within) (b .plain-end .ensures)
+-- ---- a piece with a code
 
--- it fits, and so does the run behind what is written
-so-far-fits : (b : tie.After-plain-end Inv-loop μ-loop) → length (so-far b) ≤ length (lent b)
-so-far-fits b = omega (arith, bodies.part _ 1 (step-in _) (ran b), b .before .before .before .before .before .pre)
+abbrev turn : tie.After-code-value Inv-loop μ-loop → tie.At-loop Inv-loop μ-loop
+turn c = c .before .before .before .before
 
-fits : (b : tie.After-plain-end Inv-loop μ-loop) → length (b .before .loop .inv .0) + length (passed b) ≤ length (lent b)
-fits b = omega (arith, so-far-fits b, length-append (b .before .loop .inv .0) (passed b))
+abbrev size : tie.After-code-value Inv-loop μ-loop → ℕ
+size c = codedLen (c .before .before .before .code-at .result)
 
-behind : (b : tie.After-plain-end Inv-loop μ-loop) → b .before .loop .at ≤ length (b .before .loop .out)
-behind b = laws.within (b .before .loop .inv .2) (omega (arith, fits b))
+stepped : (c : tie.After-code-value Inv-loop μ-loop)
+    → stepOf (kind (turn c)) (drop (turn c .loop .i) (text (turn c))) ≡ piece (size c) (c .code-value .result)
+stepped c =
+    let t = c .before .before in
+    code-step _ _ _ (t .before .code-at .ensures) (t .if1 .taken) ∙ ap (piece (size c)) (sym (c .code-value .ensures))
 
-written : (c : tie.After-slice-known2 Inv-loop μ-loop) →
-    let l = c .before .before .before .before .before .before .loop in
-    Wrote (so-far (c .before .before .before .before .before)) (l .at + c .before .before .put-bytes .result) (lent (c .before .before .before .before .before)) (putMid (l .at) (length (l .out) - l .at) (l .out) (c .before .before .put-bytes .last .0))
-written c = laws.behind (c .before .before .before .before .before .before .loop .inv .2) (c .before .before .put-bytes .ensures) (fits (c .before .before .before .before .before))
-
--- the piece behind the run
-abbrev run-end : tie.After-known-told Inv-loop μ-loop → tie.After-plain-end Inv-loop μ-loop
-run-end c = c .before .before .before .before .before .before .before .before .before
-
-abbrev size : tie.After-known-told Inv-loop μ-loop → ℕ
-size c = c .before .next .given .0 .1 .0
-
-abbrev value : tie.After-known-told Inv-loop μ-loop → Unescaped
-value c = c .before .next .given .0 .0
-
-stepped : (c : tie.After-known-told Inv-loop μ-loop)
-    → stepOf (kind (run-end c)) (drop (run-end c .plain-end .result) (text (run-end c))) ≡ piece (size c) (value c)
-stepped c = sym (c .before .before .before .step-at .ensures) ∙ ap nextOf (c .before .next .given .1)
-
-room : (c : tie.After-known-told Inv-loop μ-loop)
-    → (0 < size c) × (run-end c .plain-end .result + size c ≤ length (text (run-end c))) × (length (bytesOf (value c)) ≤ size c) × Valid (value c)
-room c = bodies.bounds _ 1 (step-in _) (ran (run-end c)) _ _ (stepped c)
+room : (c : tie.After-code-value Inv-loop μ-loop)
+    → (0 < size c) × (turn c .loop .i + size c ≤ length (text (turn c))) × (length (bytesOf (c .code-value .result)) ≤ size c) × Valid (c .code-value .result)
+room c = bodies.bounds _ 1 (step-in _) (turn c .loop .inv .1) _ _ (stepped c)
 
 -- its value fits too
-value-fits : (c : tie.After-known-told Inv-loop μ-loop) → length (so-far (run-end c)) + length (bytesOf (value c)) ≤ length (lent (run-end c))
+value-fits : (c : tie.After-code-value Inv-loop μ-loop) → length (turn c .loop .inv .0) + length (bytesOf (c .code-value .result)) ≤ length (lent (turn c))
 value-fits c =
-    let b = run-end c in
-    let more = bodies.more _ 1 (step-in _) (ran b) _ _ (stepped c) in
-    omega (arith, bodies.part _ 1 (step-in _) more, length-append (so-far b) (bytesOf (value c)), b .before .before .before .before .before .pre)
+    let i = turn c .loop .inv in
+    let more = bodies.more _ 1 (step-in _) (i .1) _ _ (stepped c) in
+    omega (arith, bodies.part _ 1 (step-in _) more, length-append (i .0) (bytesOf (c .code-value .result)), entry (turn c) .pre .1)
+
+-- ---- a run
+
+abbrev run-from : tie.After-plain-end Inv-loop μ-loop → tie.At-loop Inv-loop μ-loop
+run-from b = b .before .before .before
+
+abbrev passed : tie.After-plain-end Inv-loop μ-loop → List ℕ
+passed b = take (b .plain-end .result - run-from b .loop .i) (drop (run-from b .loop .i) (text (run-from b)))
+
+ran : (b : tie.After-plain-end Inv-loop μ-loop)
+    → bodies.Passed (stepOf (kind (run-from b))) (text (run-from b)) (b .plain-end .result) (run-from b .loop .inv .0 ++ passed b)
+ran b = runs.passed-to (stepOf (kind (run-from b))) (plainByte (kind (run-from b))) (runs.plain-step _) _ (run-from b .loop .inv .1) (b .plain-end .ensures)
+
+counted : (b : tie.After-plain-end Inv-loop μ-loop) → (run-from b .loop .i ≤ b .plain-end .result)
+    × (b .plain-end .result ≤ length (text (run-from b)))
+    × (length (run-from b .loop .inv .0 ++ passed b) ≡ length (run-from b .loop .inv .0) + (b .plain-end .result - run-from b .loop .i))
+counted b = runs.counts (plainByte (kind (run-from b))) _ _ (run-from b .loop .inv .0) _ (run-from b .loop .inv .1 .within) (b .plain-end .ensures)
+
+fits : (b : tie.After-plain-end Inv-loop μ-loop) → length (run-from b .loop .inv .0) + length (passed b) ≤ length (lent (run-from b))
+fits b = omega (arith, bodies.part _ 1 (step-in _) (ran b), length-append (run-from b .loop .inv .0) (passed b), entry (run-from b) .pre .1)
 
 last-len-requires : tie.Need-last-len-requires Inv-loop μ-loop
 last-len-requires c κs = search needs
 
+sub-end : tie.Need-sub-end Inv-loop μ-loop
+sub-end c = omega (arith, c .last-len .ensures, last-le (c .before .before .before .args .s .now))
+
 loop-holds : tie.Need-loop-holds Inv-loop μ-loop
 loop-holds c = ([], bodies.start _ _, laws.nothing _)
 
+code-at-requires : tie.Need-code-at-requires Inv-loop μ-loop
+code-at-requires c κs = (c .loop .inv .1 .within, (entry c .pre .0, rw (c .before .last-len .ensures)))
+
+sub-put-value : tie.Need-sub-put-value Inv-loop μ-loop
+sub-put-value c = behind (c .before .before)
+
+part-put-value-start : tie.Need-part-put-value-start Inv-loop μ-loop
+part-put-value-start c = behind (c .before .before)
+
+part-put-value-end : tie.Need-part-put-value-end Inv-loop μ-loop
+part-put-value-end c = search needs
+
+code-value-requires : tie.Need-code-value-requires Inv-loop μ-loop
+code-value-requires c κs = search needs
+
+put-value-requires : tie.Need-put-value-requires Inv-loop μ-loop
+put-value-requires c κs = (room c .3, laws.room _ (turn c .loop .inv .2) (value-fits c))
+
+add-at : tie.Need-add-at Inv-loop μ-loop
+add-at c =
+    let v = c .before .before .before in
+    omega (arith, value-fits v, turn v .loop .inv .2 .count, c .before .before .put-value .ensures .count, entry (turn v) .good)
+
+code-len-requires : tie.Need-code-len-requires Inv-loop μ-loop
+code-len-requires c κs = search needs
+
+add-i : tie.Need-add-i Inv-loop μ-loop
+add-i c =
+    let v = c .before .before .before .before in
+    omega (arith, room v .1, c .code-len .ensures, entry (turn v) .good)
+
+loop-less : tie.Need-loop-less Inv-loop μ-loop
+loop-less c = let r = room (c .before .before .before .before) in omega (arith, r .0, r .1, c .code-len .ensures)
+
+loop-again : tie.Need-loop-again Inv-loop μ-loop
+loop-again c =
+    let v = c .before .before .before .before in
+    let i = turn v .loop .inv in (
+      i .0 ++ bytesOf (v .code-value .result),
+      rw (c .code-len .ensures) (bodies.more _ 1 (step-in _) (i .1) _ _ (stepped v)),
+      laws.behind (i .2) (c .before .before .before .put-value .ensures) (value-fits v),
+    )
+
 plain-end-requires : tie.Need-plain-end-requires Inv-loop μ-loop
-plain-end-requires c κs = c .loop .inv .1 .within
+plain-end-requires c κs = c .before .before .loop .inv .1 .within
+
+same-length : tie.Need-same-length Inv-loop μ-loop
+same-length c = let a = run-from (c .before) in laws.wrote-length (a .loop .inv .2) (passed-fits a)
+
+returns : tie.Need-returns Inv-loop μ-loop
+returns c =
+    let b = c .before in
+    let i = run-from b .loop .inv in
+    let stops = code-stops _ _ (sym (b .before .before .code-at .ensures) ∙ b .before .if1 .left) (runs.behind-run _ _ _ _ (sym (c .if2 .taken) ∙ b .plain-end .ensures)) in
+    rw (sym (bodies.whole _ 1 (step-in _) (i .1) stops)) (i .2)
 
 sub-put-bytes : tie.Need-sub-put-bytes Inv-loop μ-loop
-sub-put-bytes c = behind c
+sub-put-bytes c = behind (run-from (c .before))
 
 part-put-bytes-start : tie.Need-part-put-bytes-start Inv-loop μ-loop
-part-put-bytes-start c = behind c
+part-put-bytes-start c = behind (run-from (c .before))
 
 part-put-bytes-end : tie.Need-part-put-bytes-end Inv-loop μ-loop
 part-put-bytes-end c = search needs
 
 sub-put-bytes-2 : tie.Need-sub-put-bytes-2 Inv-loop μ-loop
-sub-put-bytes-2 c = counted (c .before) .0
+sub-put-bytes-2 c = counted (c .before .before) .0
 
 part-put-bytes-start-2 : tie.Need-part-put-bytes-start-2 Inv-loop μ-loop
-part-put-bytes-start-2 c = counted (c .before) .0
+part-put-bytes-start-2 c = counted (c .before .before) .0
 
 part-put-bytes-end-2 : tie.Need-part-put-bytes-end-2 Inv-loop μ-loop
-part-put-bytes-end-2 c = counted (c .before) .1
+part-put-bytes-end-2 c = counted (c .before .before) .1
 
 put-bytes-requires : tie.Need-put-bytes-requires Inv-loop μ-loop
-put-bytes-requires c κs = laws.room _ (c .before .before .before .loop .inv .2) (fits (c .before .before))
-
-add-at : tie.Need-add-at Inv-loop μ-loop
-add-at c = let b = c .before .before .before .before .before in omega (arith, fits b, b .before .loop .inv .2 .count, c .before .before .put-bytes .ensures .count, b .before .before .before .before .before .good)
-
-step-at-requires : tie.Need-step-at-requires Inv-loop μ-loop
-step-at-requires c κs = c .before .before .before .before .before .before .before .last-len .ensures
-
-enum-known-next : tie.Need-enum-known-next Inv-loop μ-loop
-enum-known-next c = search needs
-
-sub-put-value : tie.Need-sub-put-value Inv-loop μ-loop
-sub-put-value c = laws.within (written (c .before .before .before .before)) (omega (arith, value-fits c))
-
-part-put-value-start : tie.Need-part-put-value-start Inv-loop μ-loop
-part-put-value-start c = laws.within (written (c .before .before .before .before)) (omega (arith, value-fits c))
-
-part-put-value-end : tie.Need-part-put-value-end Inv-loop μ-loop
-part-put-value-end c = search needs
-
-put-value-requires : tie.Need-put-value-requires Inv-loop μ-loop
-put-value-requires c κs = (room (c .before) .3, laws.room _ (written (c .before .before .before .before .before)) (value-fits (c .before)))
+put-bytes-requires c κs = let b = c .before .before .before in laws.room _ (run-from b .loop .inv .2) (fits b)
 
 add-at-2 : tie.Need-add-at-2 Inv-loop μ-loop
 add-at-2 c =
-    let d = c .before .before .before .before in
-    omega (arith, value-fits d, written (d .before .before .before .before) .count, c .before .before .put-value .ensures .count, (run-end d) .before .before .before .before .before .good)
+    let b = c .before .before .before .before .before .before in
+    omega (arith, fits b, run-from b .loop .inv .2 .count, c .before .before .put-bytes .ensures .count, entry (run-from b) .good)
 
-add-i : tie.Need-add-i Inv-loop μ-loop
-add-i c = let d = c .before .before .before .before in omega (arith, room d .1, (run-end d) .before .before .before .before .before .good)
+loop-less-2 : tie.Need-loop-less-2 Inv-loop μ-loop
+loop-less-2 c =
+    let e = c .before .before .before .before .before in
+    let r = counted (e .before) in
+    omega (arith, r .0, r .1, e .if2 .left)
 
-loop-less : tie.Need-loop-less Inv-loop μ-loop
-loop-less c = let d = c .before .before .before .before in let r = room d in omega (arith, r .0, r .1, counted (run-end d) .0)
-
-loop-again : tie.Need-loop-again Inv-loop μ-loop
-loop-again c =
-    let d = c .before .before .before .before in
-    let b = run-end d in (
-      so-far b ++ bytesOf (value d),
-      bodies.more _ 1 (step-in _) (ran b) _ _ (stepped d),
-      laws.behind (written (d .before .before .before .before)) (c .before .before .put-value .ensures) (value-fits d),
-    )
-
-enum-told : tie.Need-enum-told Inv-loop μ-loop
-enum-told c = search needs
-
-same-length : tie.Need-same-length Inv-loop μ-loop
-same-length c = laws.wrote-length (written (c .before .before .before)) (so-far-fits (c .before .before .before .before .before .before .before .before))
-
-returns : tie.Need-returns Inv-loop μ-loop
-returns c =
-    let h = bodies.ends _ 1 (step-in _) (ran (c .before .before .before .before .before .before .before .before)) _ (sym (c .before .before .step-at .ensures) ∙ ap nextOf (c .enum-told .given .1)) in
-    rw (sym (ap (λ (x : Body). x .value) h)) (written (c .before .before .before))
+loop-again-2 : tie.Need-loop-again-2 Inv-loop μ-loop
+loop-again-2 c =
+    let b = c .before .before .before .before .before .before in
+    (run-from b .loop .inv .0 ++ passed b, ran b, laws.behind (run-from b .loop .inv .2) (c .before .before .put-bytes .ensures) (fits b))
 
 pub write-value-spec : {M : Type 1} → statement M
 write-value-spec =
@@ -180,8 +201,22 @@ write-value-spec =
     Inv-loop
     μ-loop
     last-len-requires
+    sub-end
     loop-holds
+    code-at-requires
+    sub-put-value
+    part-put-value-start
+    part-put-value-end
+    code-value-requires
+    put-value-requires
+    add-at
+    code-len-requires
+    add-i
+    loop-less
+    loop-again
     plain-end-requires
+    same-length
+    returns
     sub-put-bytes
     part-put-bytes-start
     part-put-bytes-end
@@ -189,17 +224,6 @@ write-value-spec =
     part-put-bytes-start-2
     part-put-bytes-end-2
     put-bytes-requires
-    add-at
-    step-at-requires
-    enum-known-next
-    sub-put-value
-    part-put-value-start
-    part-put-value-end
-    put-value-requires
     add-at-2
-    add-i
-    loop-less
-    loop-again
-    enum-told
-    same-length
-    returns)
+    loop-less-2
+    loop-again-2)

@@ -41,20 +41,20 @@ part-rest-start c = search needs
 part-rest-end : tie.Need-part-rest-end
 part-rest-end c = search needs
 
-run-len-requires : tie.Need-run-len-requires
-run-len-requires c κs = search needs
+run-except-requires : tie.Need-run-except-requires
+run-except-requires c κs = search needs
 
 -- where no quote stands at once, the run to the next decides
-by-rest : (c : tie.After-run-len) →
+by-rest : (c : tie.After-run-except) →
     let a = c .before .before .before .before .before .args in
     let s = a .text .now in
     closedAt (a .q) s (a .at) (a .value)
-    ≡ cond (eqb (c .run-len .result) (length (take (length s - a .at) (drop (a .at) s)))) (refused (unterminated (a .q)) none) (refused (overlong (a .q)) none)
+    ≡ cond (eqb (c .run-except .result) (length (take (length s - a .at) (drop (a .at) s)))) (refused (unterminated (a .q)) none) (refused (overlong (a .q)) none)
 unfolding closedAt
 by-rest c =
     let b = c .before .before in
     let a = b .before .before .before .args in
-    let n : c .run-len .result ≡ run (except 39) (drop (a .at) (a .text .now)) = c .run-len .ensures ∙ rw part-to-end in
+    let n : c .run-except .result ≡ run (except 39) (drop (a .at) (a .text .now)) = c .run-except .ensures ∙ rw part-to-end in
     rw (ne-eqb _ 39 (λ e. b .if1 .left (b .before .byte-at .ensures ∙ e)), part-to-end, n)
 
 unterminated-requires : tie.Need-unterminated-requires
@@ -80,7 +80,7 @@ closed-spec =
     sub-rest
     part-rest-start
     part-rest-end
-    run-len-requires
+    run-except-requires
     unterminated-requires
     returns-2
     overlong-requires

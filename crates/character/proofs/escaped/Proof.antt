@@ -1,9 +1,8 @@
 -- `character::escaped` meets its contract.
 -- Assumes nothing.
 use mathlib.Core.Path.{_≡_, sym, ap, _∙_}
-use Prim.Native.Nat.{_+_, _≤_}
 use native.Mathlib.Omega.{arith}
-use lib.ListN.{length, drop}
+use lib.ListN.{drop}
 use Rattle.scan.proofs.Parts.{part-to-end}
 use Rattle.escape.specs.Escape.{escapedOf, escapeOf}
 use Rattle.character.specs.Single.{allowedIn, escapedBy, escapedAt}
@@ -39,25 +38,11 @@ escaped-is : (c : tie.After-unescape) →
 unfolding escapedAt
 escaped-is c = rw (← by-escape c)
 
-within : (c : tie.After-known-told) →
-    let a = c .before .before .before .before .before .before .before .args in
-    a .at + c .before .found .given .0 .1 .0 ≤ length (a .text .now)
-within c =
-    let b = c .before in
-    escape-ends _ _ _ (b .before .before .before .before .before .before .pre) _ _
-    (sym (ap escapedOf (b .found .given .1)) ∙ by-escape (b .before .before)) .1
-
 enum-known-found : tie.Need-enum-known-found
 enum-known-found c = search needs
 
-add-closed : tie.Need-add-closed
-add-closed c = omega (arith, within c)
-
 scalar-requires : tie.Need-scalar-requires
 scalar-requires c κs = search needs
-
-closed-requires : tie.Need-closed-requires
-closed-requires c κs = within (c .before)
 
 enum-known-found-2 : tie.Need-enum-known-found-2
 enum-known-found-2 c = search needs
@@ -70,13 +55,16 @@ offset-span-requires c κs =
 
 returns : tie.Need-returns
 returns c =
-    let b = c .before .before .before in
-    rw (escaped-is (b .before .before), b .found .given .1, ← c .before .scalar .ensures) (c .closed .ensures)
+    let b = c .before .before in (
+      rw (escaped-is (b .before .before), b .found .given .1, c .scalar .ensures),
+      escape-ends _ _ _ (b .before .before .before .before .before .before .pre) _ _
+          (sym (ap escapedOf (b .found .given .1)) ∙ by-escape (b .before .before)) .1,
+    )
 
 returns-2 : tie.Need-returns-2
 returns-2 c =
     let b = c .before .before in
-    rw (escaped-is (b .before .before), b .found2 .given .1, c .offset-span .ensures)
+    (rw (escaped-is (b .before .before), b .found2 .given .1, c .offset-span .ensures), tt)
 
 pub escaped-spec : {M : Type 1} → statement M
 escaped-spec =
@@ -88,9 +76,7 @@ escaped-spec =
     allowed-requires
     unescape-requires
     enum-known-found
-    add-closed
     scalar-requires
-    closed-requires
     enum-known-found-2
     offset-span-requires
     returns

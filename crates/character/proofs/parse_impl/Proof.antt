@@ -1,7 +1,11 @@
 -- `character::parse_impl` meets its contract.
 -- Assumes nothing.
+use mathlib.Core.Path.{_≡_, sym}
+use Prim.Native.Nat.{_+_, _≤_}
+use native.Mathlib.Omega.{arith}
+use lib.ListN.{length}
 use borrow.Author.Tests.{lt-ltb, le-ltb}
-use Rattle.character.specs.Single.{singleAt}
+use Rattle.character.specs.Single.{innerOf, singleAt}
 use borrow.Author.Needs.{needs}
 use Rattle.character.proofs.parse_impl.Statement.{statement}
 use Rattle.character.proofs.parse_impl.Tie as tie
@@ -9,20 +13,60 @@ use Rattle.character.proofs.parse_impl.Tie as tie
 offset-requires : tie.Need-offset-requires
 offset-requires c κs = search needs
 
-first-requires : tie.Need-first-requires
-first-requires c κs = search needs
-
-returns : tie.Need-returns
-unfolding singleAt
-returns c = rw (← c .before .before .offset .ensures, lt-ltb _ _ (c .before .if1 .taken)) (c .first .ensures)
-
 unterminated-requires : tie.Need-unterminated-requires
 unterminated-requires c κs = search needs
 
-returns-2 : tie.Need-returns-2
+returns : tie.Need-returns
 unfolding singleAt
-returns-2 c = rw (← c .before .before .offset .ensures, le-ltb _ _ (c .before .if1 .left), c .unterminated .ensures)
+returns c = rw (← c .before .before .offset .ensures, le-ltb _ _ (c .before .if1 .taken), c .unterminated .ensures)
+
+first-requires : tie.Need-first-requires
+first-requires c κs = search needs
+
+-- what stands between the quotes decides
+by-content : (c : tie.After-first) →
+    let a = c .before .before .before .before .args in
+    singleAt (a .q) (a .text .now) ≡ innerOf (a .q) (a .text .now) (c .before .before .offset .result) (c .first .result)
+unfolding singleAt
+by-content c = rw (← c .before .before .offset .ensures, lt-ltb _ _ (c .before .if1 .left)) (sym (c .first .ensures .0))
+
+enum-known-content : tie.Need-enum-known-content
+enum-known-content c = search needs
+
+-- and ends in the text
+within : (c : tie.After-known-told) →
+    let b = c .before .before .before in
+    b .before .before .offset .result + c .before .content .given .0 .1 .0 ≤ length (b .before .before .before .before .args .text .now)
+within c = rw (c .before .content .given .1) at (c .before .before .before .first .ensures .1)
+
+add-closed : tie.Need-add-closed
+add-closed c = omega (arith, within c)
+
+closed-requires : tie.Need-closed-requires
+closed-requires c κs = within c
+
+enum-known-content-2 : tie.Need-enum-known-content-2
+enum-known-content-2 c = search needs
+
+returns-2 : tie.Need-returns-2
+returns-2 c =
+    let b = c .before .before in
+    rw (by-content (b .before .before), b .content .given .1) (c .closed .ensures)
+
+returns-3 : tie.Need-returns-3
+returns-3 c = rw (by-content (c .before .before .before), c .before .content2 .given .1)
 
 pub parse-impl-spec : {M : Type 1} → statement M
 parse-impl-spec =
-    tie.close (tie.spec offset-requires first-requires returns unterminated-requires returns-2)
+    tie.close
+    (tie.spec
+    offset-requires
+    unterminated-requires
+    returns
+    first-requires
+    enum-known-content
+    add-closed
+    closed-requires
+    enum-known-content-2
+    returns-2
+    returns-3)

@@ -1,5 +1,6 @@
 -- `character::plain_byte` meets its contract.
 -- Assumes nothing.
+use native.Mathlib.Omega.{arith}
 use borrow.Author.Tests.{lt-ltb, le-ltb}
 use borrow.Author.Needs.{needs}
 use Rattle.character.proofs.plain_byte.Statement.{statement}
@@ -8,25 +9,17 @@ use Rattle.character.proofs.plain_byte.Tie as tie
 shared-slice-read-b : tie.Need-shared-slice-read-b
 shared-slice-read-b c = search needs
 
-add-closed : tie.Need-add-closed
-add-closed c = search needs
-
-cast-closed : tie.Need-cast-closed
-cast-closed c = search needs
-
-closed-requires : tie.Need-closed-requires
-closed-requires c κs = search needs
+cast-t7 : tie.Need-cast-t7
+cast-t7 c = search needs
 
 returns : tie.Need-returns
-returns c = rw (lt-ltb _ 128 (c .before .if1 .taken)) (c .closed .ensures)
+returns c = (rw (lt-ltb _ 128 (c .if1 .taken)), omega arith)
 
-add-t11 : tie.Need-add-t11
-add-t11 c = search needs
+add-t9 : tie.Need-add-t9
+add-t9 c = search needs
 
 returns-2 : tie.Need-returns-2
-returns-2 c = rw (le-ltb _ 128 (c .if1 .left))
+returns-2 c = (rw (le-ltb _ 128 (c .if1 .left)), tt)
 
 pub plain-byte-spec : {M : Type 1} → statement M
-plain-byte-spec =
-    tie.close
-    (tie.spec shared-slice-read-b add-closed cast-closed closed-requires returns add-t11 returns-2)
+plain-byte-spec = tie.close (tie.spec shared-slice-read-b cast-t7 returns add-t9 returns-2)

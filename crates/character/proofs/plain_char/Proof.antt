@@ -1,7 +1,6 @@
 -- `character::plain_char` meets its contract.
 -- Assumes nothing.
 use mathlib.Core.Path.{_≡_, sym, _∙_}
-use native.Mathlib.Omega.{arith}
 use lib.ListN.{drop}
 use Rattle.utf8.specs.Decode.{decode}
 use Rattle.utf8.specs.declared.Decoded.the-variants.{Char}
@@ -20,33 +19,17 @@ enum-told : tie.Need-enum-told
 enum-told c = search needs
 
 returns : tie.Need-returns
-returns c = rw (sym (c .before .before .decode-char .ensures) ∙ c .enum-told .given .1)
+returns c = (rw (sym (c .before .before .decode-char .ensures) ∙ c .enum-told .given .1), tt)
 
-decoded : (c : tie.After-known-told) →
-    let a = c .before .before .before .before .before .args in
-    let f = c .before .found .given .0 in
+decoded : (c : tie.After-found) →
+    let a = c .before .before .before .before .args in
+    let f = c .found .given .0 in
     decode (drop (a .at) (a .text .now)) ≡ Char (f .0) (f .1 .0)
-decoded c = sym (c .before .before .before .decode-char .ensures) ∙ c .before .found .given .1
-
-add-closed : tie.Need-add-closed
-add-closed c =
-    let a = c .before .before .before .before .before .args in
-    omega (arith, found-bounds (a .text .now) (a .at) _ _ (decoded c))
-
-closed-requires : tie.Need-closed-requires
-closed-requires c κs = found-bounds _ _ _ _ (decoded c) .1
+decoded c = sym (c .before .before .decode-char .ensures) ∙ c .found .given .1
 
 returns-2 : tie.Need-returns-2
-returns-2 c = rw (decoded (c .before)) (c .closed .ensures)
+returns-2 c = (rw (decoded (c .before)), found-bounds _ _ _ _ (decoded (c .before)) .1)
 
 pub plain-char-spec : {M : Type 1} → statement M
 plain-char-spec =
-    tie.close
-    (tie.spec
-    decode-char-requires
-    enum-known-found
-    enum-told
-    returns
-    add-closed
-    closed-requires
-    returns-2)
+    tie.close (tie.spec decode-char-requires enum-known-found enum-told returns returns-2)

@@ -4,8 +4,8 @@ use mathlib.Core.Path.{sym, _∙_}
 use mathlib.Core.Bool.{or-true}
 use native.Mathlib.Omega.{arith}
 use borrow.Author.Tests.{eq-eqb, ne-eqb}
+use Rattle.scan.proofs.Bytes.{byte-inside}
 use Rattle.float.specs.Float.{signEnd}
-use Rattle.float.proofs.Inside.{byte-inside}
 use borrow.Author.Needs.{needs}
 use Rattle.float.proofs.sign_end.Statement.{statement}
 use Rattle.float.proofs.sign_end.Tie as tie

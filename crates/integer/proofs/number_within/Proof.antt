@@ -8,7 +8,8 @@ use lib.ListN.{length, getD, drop}
 use Rattle.err.specs.Reading.{baseOf}
 use Rattle.parse.specs.Class.{classOf}
 use Rattle.integer.specs.Value.{numberFrom, number}
-use Rattle.integer.proofs.Numbers.{base-positive, number-passed, number-more, number-end, number-above, within-given, within-over}
+use Rattle.integer.proofs.Bases.{base-ends}
+use Rattle.integer.proofs.Numbers.{number-passed, number-more, number-end, number-above, within-given, within-over}
 use borrow.Author.Needs.{needs}
 use Rattle.integer.proofs.number_within.Statement.{statement}
 use Rattle.integer.proofs.number_within.Tie as tie
@@ -30,7 +31,7 @@ base : (c : tie.After-wide Inv-loop μ-loop) → c .wide .result ≡ baseOf (c .
 base c = c .wide .ensures ∙ c .before .value .ensures
 
 positive : (c : tie.After-wide Inv-loop μ-loop) → 0 < c .wide .result
-positive c = rw (base c) (base-positive (c .before .before .before .args .base))
+positive c = rw (base c) (base-ends (c .before .before .before .args .base) .0)
 
 div-most : tie.Need-div-most Inv-loop μ-loop
 div-most c = positive c

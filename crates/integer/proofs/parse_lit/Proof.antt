@@ -19,7 +19,7 @@ enum-told : tie.Need-enum-told
 enum-told c = search needs
 
 returns : tie.Need-returns
-returns c = read-none _ (sym (c .enum-told .given .1) ∙ c .before .before .get .ensures)
+returns c = read-none _ (sym (c .before .before .get .ensures) ∙ c .enum-told .given .1)
 
 is-decimal-requires : tie.Need-is-decimal-requires
 is-decimal-requires c κs = search needs
@@ -33,7 +33,7 @@ told : (c : tie.After-is-decimal) →
     (0 < length s) × (c .is-decimal .result ≡ decDigit (getD s 0 0))
 told c =
     let b = c .before .before in
-    let first = first-byte (b .before .before .before .before .args .text .now) _ (sym (b .first .given .1) ∙ b .before .before .get .ensures) in
+    let first = first-byte (b .before .before .before .before .args .text .now) _ (sym (b .before .before .get .ensures) ∙ b .first .given .1) in
     (first .0, c .is-decimal .ensures ∙ ap decDigit (first .1))
 
 returns-2 : tie.Need-returns-2

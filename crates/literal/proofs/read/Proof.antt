@@ -7,6 +7,7 @@ use Rattle.err.specs.Numbers.{numberOf}
 use Rattle.err.proofs.Positive.{number-positive}
 use Rattle.literal.specs.Checks.{faultOf}
 use Rattle.literal.specs.Readings.{readAt}
+use Rattle.literal.proofs.Checks.{fault-passed}
 use borrow.Author.Needs.{needs}
 use Rattle.literal.proofs.read.Statement.{statement}
 use Rattle.literal.proofs.read.Tie as tie
@@ -28,7 +29,9 @@ enum-told : tie.Need-enum-told
 enum-told c = search needs
 
 entry-requires : tie.Need-entry-requires
-entry-requires c κs = search needs
+entry-requires c κs =
+    let k = c .before .before in
+    (k .before .if1 .left, fault-passed _ (sym (k .check-text .ensures) ∙ ap faultOf (c .enum-told .given .1)) .0)
 
 returns-2 : tie.Need-returns-2
 unfolding readAt

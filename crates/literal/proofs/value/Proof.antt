@@ -1,7 +1,11 @@
 -- `literal::value` meets its contract.
 -- Assumes nothing.
 use mathlib.Core.Path.{_≡_, refl, sym, ap, _∙_}
-use Rattle.literal.specs.Values.{valueAt}
+use Rattle.err.specs.Reading.{outcomeOf}
+use Rattle.err.specs.declared.Reading.the-variants as reading
+use Rattle.literal.specs.Readings.{readAt}
+use Rattle.literal.specs.Values.{checkedValue, valueAt}
+use Rattle.literal.proofs.Calls.{no-other-integer, value-read, value-ends, value-given}
 use borrow.Author.Needs.{needs}
 use Rattle.literal.proofs.value.Statement.{statement}
 use Rattle.literal.proofs.value.Tie as tie
@@ -34,15 +38,46 @@ returns-2 c =
     let a = c .before .before .before .before in
     (rw (← a .before .before .from-code .ensures, a .found .given .1, ← c .before .before .largest .ensures, c .enum-told2 .given .1), refl)
 
-checked-value-requires : tie.Need-checked-value-requires
-checked-value-requires c κs = search needs
+-- the code stands for a type with a largest value
+typed : (c : tie.After-known-told2) →
+    let a = c .before .before .before .before .before .before .before .before .before .args in
+    valueAt (a .code) (a .text .now) ≡ checkedValue (c .before .most .given .0 .0) (a .text .now)
+unfolding valueAt
+typed c =
+    let b = c .before in
+    let l = b .before .before in
+    let a = l .before .before in
+    rw (← a .before .before .from-code .ensures, a .found .given .1, ← l .largest .ensures, b .most .given .1)
+
+read-requires : tie.Need-read-requires
+read-requires c κs = search needs
+
+enum-known-reading : tie.Need-enum-known-reading
+enum-known-reading c = search needs
+
+-- the text reads as this integer
+integer : (c : tie.After-reading) →
+    readAt 2 (c .before .before .before .before .before .before .before .before .before .before .before .before .args .text .now) ≡ outcomeOf (reading.Integer (c .reading .given .0 .0))
+integer c = sym (c .before .before .read .ensures .0) ∙ ap outcomeOf (c .reading .given .1)
+
+value-of-requires : tie.Need-value-of-requires
+value-of-requires c κs = value-ends 0 _ (integer (c .before))
+
+enum-known-reading-2 : tie.Need-enum-known-reading-2
+enum-known-reading-2 c = search needs
 
 returns-3 : tie.Need-returns-3
-unfolding valueAt
 returns-3 c =
-    let b = c .before .before in
-    let a = b .before .before .before .before in
-    (rw (← a .before .before .from-code .ensures, a .found .given .1, ← b .before .before .largest .ensures, b .most .given .1) (c .checked-value .ensures), refl)
+    let r = c .before .before in
+    (rw (typed (r .before .before .before)) (c .value-of .ensures ∙ value-given _ _ (integer r)), refl)
+
+returns-4 : tie.Need-returns-4
+returns-4 c =
+    let r = c .before .before .before in
+    (rw (typed (r .before), value-read, ← r .read .ensures .0, c .before .reading2 .given .1), refl)
+
+returns-5 : tie.Need-returns-5
+returns-5 c = absurd (no-other-integer _ (c .before .read .result) (c .before .read .ensures .0) (c .match3 .keys3))
 
 pub value-spec : {M : Type 1} → statement M
 value-spec =
@@ -56,5 +91,10 @@ value-spec =
     enum-known-most
     enum-told-2
     returns-2
-    checked-value-requires
-    returns-3)
+    read-requires
+    enum-known-reading
+    value-of-requires
+    enum-known-reading-2
+    returns-3
+    returns-4
+    returns-5)

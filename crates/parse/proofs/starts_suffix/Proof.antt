@@ -1,25 +1,38 @@
 -- `parse::starts_suffix` meets its contract.
 -- Assumes nothing.
-use borrow.Author.Tests.{lt-ltb, le-ltb}
-use Rattle.parse.specs.Sets.{suffixRest}
-use Rattle.parse.specs.Suffix.{suffixStart}
-use borrow.Author.Needs.{needs}
+use mathlib.Core.Path.{sym}
+use mathlib.Core.Bool.{or-true, or-false}
+use native.Mathlib.Omega.{arith}
+use borrow.Author.Tests.{eq-eqb, ne-eqb, le-leb, lt-leb}
+use Rattle.parse.proofs.Classes.{start-above, start-is, within-above, within-below, within-is}
 use Rattle.parse.proofs.starts_suffix.Statement.{statement}
 use Rattle.parse.proofs.starts_suffix.Tie as tie
 
-class-of-requires : tie.Need-class-of-requires
-class-of-requires c κs = search needs
-
-is-in-requires : tie.Need-is-in-requires
-is-in-requires c κs = search needs
-
 returns : tie.Need-returns
-unfolding suffixStart
-returns c = rw (← c .before .class-of .ensures, lt-ltb _ _ (c .if1 .taken))
+returns c = sym (start-above _ (c .if1 .taken))
 
 returns-2 : tie.Need-returns-2
-unfolding suffixStart suffixRest
-returns-2 c = rw (← c .before .before .class-of .ensures, le-ltb _ _ (c .before .if1 .left)) (c .is-in .ensures)
+returns-2 c = rw (start-is, eq-eqb _ _ (c .if2 .taken))
+
+returns-3 : tie.Need-returns-3
+returns-3 c =
+    let b = c .before .before .before .args .b in
+    rw (start-is, ne-eqb _ _ (c .before .if2 .left), within-below 97 122 b (omega arith), within-below 65 90 b (omega arith), lt-leb 128 b (omega arith))
+
+returns-4 : tie.Need-returns-4
+returns-4 c =
+    let b = c .before .before .before .before .args .b in
+    rw (start-is, within-is 65 90 b (omega arith) (omega arith), or-true, or-true)
+
+returns-5 : tie.Need-returns-5
+returns-5 c =
+    let b = c .before .before .before .before .before .args .b in
+    rw (start-is, ne-eqb b 95 (omega arith), within-below 97 122 b (omega arith), within-above 65 90 b (omega arith), lt-leb 128 b (omega arith))
+
+returns-6 : tie.Need-returns-6
+returns-6 c =
+    let b = c .before .before .before .before .before .args .b in
+    rw (start-is, ne-eqb b 95 (omega arith), le-leb 97 b (omega arith), within-above 65 90 b (omega arith), lt-leb 128 b (omega arith), or-false)
 
 pub starts-suffix-spec : {M : Type 1} → statement M
-starts-suffix-spec = tie.close (tie.spec class-of-requires returns is-in-requires returns-2)
+starts-suffix-spec = tie.close (tie.spec returns returns-2 returns-3 returns-4 returns-5 returns-6)

@@ -9,12 +9,14 @@ use lib.ListN.{length, take, drop, length-append}
 use borrow.Rule.Slice.PartMut.{putMid}
 use Rattle.buffer.specs.Buffer.{Wrote}
 use Rattle.buffer.proofs.Laws as laws
+use Rattle.utf8.proofs.Cuts.{last-le}
+use Rattle.escape.specs.Code.{codedLen}
 use Rattle.escape.specs.Escape.{bytesOf, Valid}
 use Rattle.escape.specs.declared.Allowed.{Allowed}
-use Rattle.escape.specs.declared.Unescaped.{Unescaped}
 use Rattle.body.specs.Body.{Body, bodyBy}
-use Rattle.body.specs.Step.{piece, nextOf, stepOf, plainByte}
+use Rattle.body.specs.Step.{piece, stepOf, plainByte}
 use Rattle.body.proofs.Bodies as bodies
+use Rattle.body.proofs.Codes.{code-step, code-stops}
 use Rattle.body.proofs.Runs as runs
 use Rattle.body.proofs.Within.{step-in}
 use Rattle.quoting.specs.Styled.{styledForms}
@@ -24,188 +26,214 @@ use Rattle.quoting.proofs.put_body.Tie as tie
 
 -- what is passed stands for v, whose form is written
 abbrev Inv-loop : tie.InvT-loop
-Inv-loop out₀ s k style last i₀ at₀ out i at =
+Inv-loop out₀ s k style end i₀ at₀ out i at =
     (v : List ℕ) × bodies.Passed (stepOf k) s i v × Wrote (styledForms (style .wide) (style .quote) v) at out₀ out
 
 abbrev μ-loop : tie.MeasureT-loop
-μ-loop out₀ s k style last i₀ at₀ out i at = length s - i
+μ-loop out₀ s k style end i₀ at₀ out i at = length s - i
 
--- where the run has ended: the text, its kind, how a value is written, the run, and what the passed bytes stand for
-abbrev text : tie.After-plain-end Inv-loop μ-loop → List ℕ
-text b = b .before .before .before .before .before .args .s .now
+-- where the loop stands: the text, its kind, how a value is written, the buffer as it came, and what the passed bytes stand for
+abbrev entry : tie.At-loop Inv-loop μ-loop → tie.Start Inv-loop μ-loop
+entry l = l .before .before .before .before
 
-abbrev kind : tie.After-plain-end Inv-loop μ-loop → Allowed
-kind b = b .before .before .before .before .before .args .k
+abbrev text : tie.At-loop Inv-loop μ-loop → List ℕ
+text l = entry l .args .s .now
 
-abbrev forms : tie.After-plain-end Inv-loop μ-loop → List ℕ → List ℕ
-forms b v = let y = b .before .before .before .before .before .args .style in styledForms (y .wide) (y .quote) v
+abbrev kind : tie.At-loop Inv-loop μ-loop → Allowed
+kind l = entry l .args .k
 
-forms-append : (b : tie.After-plain-end Inv-loop μ-loop) (u v : List ℕ) → forms b (u ++ v) ≡ forms b u ++ forms b v
-forms-append b u v = styles.forms-append _ _ u v
+abbrev forms : tie.At-loop Inv-loop μ-loop → List ℕ → List ℕ
+forms l v = let y = entry l .args .style in styledForms (y .wide) (y .quote) v
 
-abbrev passed : tie.After-plain-end Inv-loop μ-loop → List ℕ
-passed b = take (b .plain-end .result - b .before .loop .i) (drop (b .before .loop .i) (text b))
+abbrev lent : tie.At-loop Inv-loop μ-loop → List ℕ
+lent l = entry l .args .out .now
 
-abbrev so-far : tie.After-plain-end Inv-loop μ-loop → List ℕ
-so-far b = b .before .loop .inv .0 ++ passed b
-
-ran : (b : tie.After-plain-end Inv-loop μ-loop) → bodies.Passed (stepOf (kind b)) (text b) (b .plain-end .result) (so-far b)
-ran b = runs.passed-to (stepOf (kind b)) (plainByte (kind b)) (runs.plain-step _) _ (b .before .loop .inv .1) (b .plain-end .ensures)
-
-counted : (b : tie.After-plain-end Inv-loop μ-loop) → (b .before .loop .i ≤ b .plain-end .result)
-    × (b .plain-end .result ≤ length (text b))
-    × (length (so-far b) ≡ length (b .before .loop .inv .0) + (b .plain-end .result - b .before .loop .i))
-counted b = runs.counts (plainByte (kind b)) _ _ (b .before .loop .inv .0) _ (b .before .loop .inv .1 .within) (b .plain-end .ensures)
-
-abbrev lent : tie.After-plain-end Inv-loop μ-loop → List ℕ
-lent b = b .before .before .before .before .before .args .out .now
+abbrev so-far : tie.At-loop Inv-loop μ-loop → List ℕ
+so-far l = l .loop .inv .0
 
 -- the form of what is passed is a part of the whole, so it fits
-part : (b : tie.After-plain-end Inv-loop μ-loop) {i : ℕ} {v : List ℕ}
-    → bodies.Passed (stepOf (kind b)) (text b) i v → length (forms b v) ≤ length (lent b)
-part b {i} {v} p =
-    let rest = bodyBy (stepOf (kind b)) (drop i (text b)) .value in
+part : (l : tie.At-loop Inv-loop μ-loop) {i : ℕ} {v : List ℕ}
+    → bodies.Passed (stepOf (kind l)) (text l) i v → length (forms l v) ≤ length (lent l)
+part l {i} {v} p =
+    let rest = bodyBy (stepOf (kind l)) (drop i (text l)) .value in
+    let y = entry l .args .style in
     omega (
       arith,
-      ap (λ (x : Body). length (forms b (x .value))) (p .is),
-      ap length (forms-append b v rest),
-      length-append (forms b v) (forms b rest),
-      b .before .before .before .before .before .pre,
+      ap (λ (x : Body). length (forms l (x .value))) (p .is),
+      ap length (styles.forms-append (y .wide) (y .quote) v rest),
+      length-append (forms l v) (forms l rest),
+      entry l .pre .1,
     )
 
-both : (b : tie.After-plain-end Inv-loop μ-loop) (u v : List ℕ)
-    → length (forms b (u ++ v)) ≤ length (lent b) → length (forms b u) + length (forms b v) ≤ length (lent b)
-both b u v h = omega (arith, ap length (forms-append b u v), length-append (forms b u) (forms b v))
+behind : (l : tie.At-loop Inv-loop μ-loop) → l .loop .at ≤ length (l .loop .out)
+behind l = laws.within (l .loop .inv .2) (part l (l .loop .inv .1))
 
-so-far-fits : (b : tie.After-plain-end Inv-loop μ-loop) → length (forms b (so-far b)) ≤ length (lent b)
-so-far-fits b = part b (ran b)
+-- and so does the form of a piece more
+fits : (l : tie.At-loop Inv-loop μ-loop) (v : List ℕ) {i : ℕ} → bodies.Passed (stepOf (kind l)) (text l) i (so-far l ++ v)
+    → length (forms l (so-far l)) + length (forms l v) ≤ length (lent l)
+fits l v p =
+    let y = entry l .args .style in
+    omega (arith, part l p, ap length (styles.forms-append (y .wide) (y .quote) (so-far l) v), length-append (forms l (so-far l)) (forms l v))
 
-fits : (b : tie.After-plain-end Inv-loop μ-loop) → length (forms b (b .before .loop .inv .0)) + length (forms b (passed b)) ≤ length (lent b)
-fits b = both b (b .before .loop .inv .0) (passed b) (so-far-fits b)
+-- which is written behind it
+further : (l : tie.At-loop Inv-loop μ-loop) (v : List ℕ) (n : ℕ) (ys : List ℕ) {i : ℕ} → bodies.Passed (stepOf (kind l)) (text l) i (so-far l ++ v)
+    → Wrote (forms l v) n (take (length (l .loop .out) - l .loop .at) (drop (l .loop .at) (l .loop .out))) ys
+    → Wrote (forms l (so-far l ++ v)) (l .loop .at + n) (lent l) (putMid (l .loop .at) (length (l .loop .out) - l .loop .at) (l .loop .out) ys)
+further l v n ys p w =
+    let y = entry l .args .style in
+    rw (styles.forms-append (y .wide) (y .quote) (so-far l) v) (laws.behind (l .loop .inv .2) w (fits l v p))
 
-behind : (b : tie.After-plain-end Inv-loop μ-loop) → b .before .loop .at ≤ length (b .before .loop .out)
-behind b = laws.within (b .before .loop .inv .2) (omega (arith, fits b))
+-- ---- a piece with a code
 
-written : (c : tie.After-slice-known2 Inv-loop μ-loop) →
-    let b = c .before .before .before .before .before in
-    let l = b .before .loop in
-    Wrote (forms b (so-far b)) (l .at + c .before .before .put-forms .result) (lent b)
-    (putMid (l .at) (length (l .out) - l .at) (l .out) (c .before .before .put-forms .last .0))
-written c =
-    let b = c .before .before .before .before .before in
-    rw (forms-append b (b .before .loop .inv .0) (passed b)) (laws.behind (b .before .loop .inv .2) (c .before .before .put-forms .ensures) (fits b))
+abbrev turn : tie.After-code-value Inv-loop μ-loop → tie.At-loop Inv-loop μ-loop
+turn c = c .before .before .before .before
 
--- the piece behind the run
-abbrev run-end : tie.After-known-told Inv-loop μ-loop → tie.After-plain-end Inv-loop μ-loop
-run-end c = c .before .before .before .before .before .before .before .before .before
+abbrev size : tie.After-code-value Inv-loop μ-loop → ℕ
+size c = codedLen (c .before .before .before .code-at .result)
 
-abbrev size : tie.After-known-told Inv-loop μ-loop → ℕ
-size c = c .before .next .given .0 .1 .0
+abbrev bytes : tie.After-code-value Inv-loop μ-loop → List ℕ
+bytes c = bytesOf (c .code-value .result)
 
-abbrev value : tie.After-known-told Inv-loop μ-loop → Unescaped
-value c = c .before .next .given .0 .0
+stepped : (c : tie.After-code-value Inv-loop μ-loop)
+    → stepOf (kind (turn c)) (drop (turn c .loop .i) (text (turn c))) ≡ piece (size c) (c .code-value .result)
+stepped c =
+    let t = c .before .before in
+    code-step _ _ _ (t .before .code-at .ensures) (t .if1 .taken) ∙ ap (piece (size c)) (sym (c .code-value .ensures))
 
-stepped : (c : tie.After-known-told Inv-loop μ-loop)
-    → stepOf (kind (run-end c)) (drop (run-end c .plain-end .result) (text (run-end c))) ≡ piece (size c) (value c)
-stepped c = sym (c .before .before .before .step-at .ensures) ∙ ap nextOf (c .before .next .given .1)
+room : (c : tie.After-code-value Inv-loop μ-loop)
+    → (0 < size c) × (turn c .loop .i + size c ≤ length (text (turn c))) × (length (bytes c) ≤ size c) × Valid (c .code-value .result)
+room c = bodies.bounds _ 1 (step-in _) (turn c .loop .inv .1) _ _ (stepped c)
 
-room : (c : tie.After-known-told Inv-loop μ-loop)
-    → (0 < size c) × (run-end c .plain-end .result + size c ≤ length (text (run-end c))) × (length (bytesOf (value c)) ≤ size c) × Valid (value c)
-room c = bodies.bounds _ 1 (step-in _) (ran (run-end c)) _ _ (stepped c)
+onward : (c : tie.After-code-value Inv-loop μ-loop)
+    → bodies.Passed (stepOf (kind (turn c))) (text (turn c)) (turn c .loop .i + size c) (so-far (turn c) ++ bytes c)
+onward c = bodies.more _ 1 (step-in _) (turn c .loop .inv .1) _ _ (stepped c)
 
--- its value fits too
-value-fits : (c : tie.After-known-told Inv-loop μ-loop)
-    → length (forms (run-end c) (so-far (run-end c))) + length (forms (run-end c) (bytesOf (value c))) ≤ length (lent (run-end c))
-value-fits c =
-    let b = run-end c in
-    both b (so-far b) (bytesOf (value c)) (part b (bodies.more _ 1 (step-in _) (ran b) _ _ (stepped c)))
+value-fits : (c : tie.After-code-value Inv-loop μ-loop)
+    → length (forms (turn c) (so-far (turn c))) + length (forms (turn c) (bytes c)) ≤ length (lent (turn c))
+value-fits c = fits (turn c) (bytes c) (onward c)
+
+-- ---- a run
+
+abbrev run-from : tie.After-plain-end Inv-loop μ-loop → tie.At-loop Inv-loop μ-loop
+run-from b = b .before .before .before
+
+abbrev passed : tie.After-plain-end Inv-loop μ-loop → List ℕ
+passed b = take (b .plain-end .result - run-from b .loop .i) (drop (run-from b .loop .i) (text (run-from b)))
+
+ran : (b : tie.After-plain-end Inv-loop μ-loop)
+    → bodies.Passed (stepOf (kind (run-from b))) (text (run-from b)) (b .plain-end .result) (so-far (run-from b) ++ passed b)
+ran b = runs.passed-to (stepOf (kind (run-from b))) (plainByte (kind (run-from b))) (runs.plain-step _) _ (run-from b .loop .inv .1) (b .plain-end .ensures)
+
+counted : (b : tie.After-plain-end Inv-loop μ-loop) → (run-from b .loop .i ≤ b .plain-end .result)
+    × (b .plain-end .result ≤ length (text (run-from b)))
+    × (length (so-far (run-from b) ++ passed b) ≡ length (so-far (run-from b)) + (b .plain-end .result - run-from b .loop .i))
+counted b = runs.counts (plainByte (kind (run-from b))) _ _ (so-far (run-from b)) _ (run-from b .loop .inv .1 .within) (b .plain-end .ensures)
+
+run-fits : (b : tie.After-plain-end Inv-loop μ-loop)
+    → length (forms (run-from b) (so-far (run-from b))) + length (forms (run-from b) (passed b)) ≤ length (lent (run-from b))
+run-fits b = fits (run-from b) (passed b) (ran b)
 
 last-len-requires : tie.Need-last-len-requires Inv-loop μ-loop
 last-len-requires c κs = search needs
 
+sub-end : tie.Need-sub-end Inv-loop μ-loop
+sub-end c = omega (arith, c .last-len .ensures, last-le (c .before .before .before .args .s .now))
+
 loop-holds : tie.Need-loop-holds Inv-loop μ-loop
 loop-holds c = ([], bodies.start _ _, laws.nothing _)
 
+code-at-requires : tie.Need-code-at-requires Inv-loop μ-loop
+code-at-requires c κs = (c .loop .inv .1 .within, (omega (arith, entry c .pre .0), rw (c .before .last-len .ensures)))
+
+sub-put-value : tie.Need-sub-put-value Inv-loop μ-loop
+sub-put-value c = behind (c .before .before)
+
+part-put-value-start : tie.Need-part-put-value-start Inv-loop μ-loop
+part-put-value-start c = behind (c .before .before)
+
+part-put-value-end : tie.Need-part-put-value-end Inv-loop μ-loop
+part-put-value-end c = search needs
+
+code-value-requires : tie.Need-code-value-requires Inv-loop μ-loop
+code-value-requires c κs = search needs
+
+put-value-requires : tie.Need-put-value-requires Inv-loop μ-loop
+put-value-requires c κs = (room c .3, laws.room _ (turn c .loop .inv .2) (value-fits c))
+
+add-at : tie.Need-add-at Inv-loop μ-loop
+add-at c =
+    let v = c .before .before .before in
+    omega (arith, value-fits v, turn v .loop .inv .2 .count, c .before .before .put-value .ensures .count, entry (turn v) .good)
+
+code-len-requires : tie.Need-code-len-requires Inv-loop μ-loop
+code-len-requires c κs = search needs
+
+add-i : tie.Need-add-i Inv-loop μ-loop
+add-i c = let v = c .before .before .before .before in omega (arith, room v .1, c .code-len .ensures, entry (turn v) .good)
+
+loop-less : tie.Need-loop-less Inv-loop μ-loop
+loop-less c = let r = room (c .before .before .before .before) in omega (arith, r .0, r .1, c .code-len .ensures)
+
+loop-again : tie.Need-loop-again Inv-loop μ-loop
+loop-again c =
+    let w = c .before .before .before in
+    let v = w .before in (
+      so-far (turn v) ++ bytes v,
+      rw (c .code-len .ensures) (onward v),
+      further (turn v) (bytes v) _ _ (onward v) (w .put-value .ensures),
+    )
+
 plain-end-requires : tie.Need-plain-end-requires Inv-loop μ-loop
-plain-end-requires c κs = c .loop .inv .1 .within
+plain-end-requires c κs = c .before .before .loop .inv .1 .within
+
+same-length : tie.Need-same-length Inv-loop μ-loop
+same-length c = let l = run-from (c .before) in laws.wrote-length (l .loop .inv .2) (part l (l .loop .inv .1))
+
+returns : tie.Need-returns Inv-loop μ-loop
+returns c =
+    let b = c .before in
+    let i = run-from b .loop .inv in
+    let stops = code-stops _ _ (sym (b .before .before .code-at .ensures) ∙ b .before .if1 .left) (runs.behind-run _ _ _ _ (sym (c .if2 .taken) ∙ b .plain-end .ensures)) in
+    rw (sym (bodies.whole _ 1 (step-in _) (i .1) stops)) (i .2)
 
 sub-put-forms : tie.Need-sub-put-forms Inv-loop μ-loop
-sub-put-forms c = behind c
+sub-put-forms c = behind (run-from (c .before))
 
 part-put-forms-start : tie.Need-part-put-forms-start Inv-loop μ-loop
-part-put-forms-start c = behind c
+part-put-forms-start c = behind (run-from (c .before))
 
 part-put-forms-end : tie.Need-part-put-forms-end Inv-loop μ-loop
 part-put-forms-end c = search needs
 
 sub-put-forms-2 : tie.Need-sub-put-forms-2 Inv-loop μ-loop
-sub-put-forms-2 c = counted (c .before) .0
+sub-put-forms-2 c = counted (c .before .before) .0
 
 part-put-forms-start-2 : tie.Need-part-put-forms-start-2 Inv-loop μ-loop
-part-put-forms-start-2 c = counted (c .before) .0
+part-put-forms-start-2 c = counted (c .before .before) .0
 
 part-put-forms-end-2 : tie.Need-part-put-forms-end-2 Inv-loop μ-loop
-part-put-forms-end-2 c = counted (c .before) .1
+part-put-forms-end-2 c = counted (c .before .before) .1
 
 put-forms-requires : tie.Need-put-forms-requires Inv-loop μ-loop
-put-forms-requires c κs = laws.room _ (c .before .before .before .loop .inv .2) (fits (c .before .before))
-
-add-at : tie.Need-add-at Inv-loop μ-loop
-add-at c =
-    let b = c .before .before .before .before .before in
-    omega (arith, fits b, b .before .loop .inv .2 .count, c .before .before .put-forms .ensures .count, b .before .before .before .before .before .good)
-
-step-at-requires : tie.Need-step-at-requires Inv-loop μ-loop
-step-at-requires c κs = c .before .before .before .before .before .before .before .last-len .ensures
-
-enum-known-next : tie.Need-enum-known-next Inv-loop μ-loop
-enum-known-next c = search needs
-
-sub-put-value : tie.Need-sub-put-value Inv-loop μ-loop
-sub-put-value c = laws.within (written (c .before .before .before .before)) (omega (arith, value-fits c))
-
-part-put-value-start : tie.Need-part-put-value-start Inv-loop μ-loop
-part-put-value-start c = laws.within (written (c .before .before .before .before)) (omega (arith, value-fits c))
-
-part-put-value-end : tie.Need-part-put-value-end Inv-loop μ-loop
-part-put-value-end c = search needs
-
-put-value-requires : tie.Need-put-value-requires Inv-loop μ-loop
-put-value-requires c κs = (room (c .before) .3, laws.room _ (written (c .before .before .before .before .before)) (value-fits (c .before)))
+put-forms-requires c κs = let b = c .before .before .before in laws.room _ (run-from b .loop .inv .2) (run-fits b)
 
 add-at-2 : tie.Need-add-at-2 Inv-loop μ-loop
 add-at-2 c =
-    let d = c .before .before .before .before in
-    let w = written (d .before .before .before .before) in
-    omega (arith, value-fits d, w .count, c .before .before .put-value .ensures .count, (run-end d) .before .before .before .before .before .good)
+    let w = c .before .before in
+    let b = w .before .before .before .before in
+    omega (arith, run-fits b, run-from b .loop .inv .2 .count, w .put-forms .ensures .count, entry (run-from b) .good)
 
-add-i : tie.Need-add-i Inv-loop μ-loop
-add-i c = let d = c .before .before .before .before in omega (arith, room d .1, (run-end d) .before .before .before .before .before .good)
+loop-less-2 : tie.Need-loop-less-2 Inv-loop μ-loop
+loop-less-2 c =
+    let e = c .before .before .before .before .before in
+    let r = counted (e .before) in
+    omega (arith, r .0, r .1, e .if2 .left)
 
-loop-less : tie.Need-loop-less Inv-loop μ-loop
-loop-less c = let d = c .before .before .before .before in let r = room d in omega (arith, r .0, r .1, counted (run-end d) .0)
-
-loop-again : tie.Need-loop-again Inv-loop μ-loop
-loop-again c =
-    let d = c .before .before .before .before in
-    let b = run-end d in (
-      so-far b ++ bytesOf (value d),
-      bodies.more _ 1 (step-in _) (ran b) _ _ (stepped d),
-      rw (forms-append b (so-far b) (bytesOf (value d)))
-          (laws.behind (written (d .before .before .before .before)) (c .before .before .put-value .ensures) (value-fits d)),
-    )
-
-enum-told : tie.Need-enum-told Inv-loop μ-loop
-enum-told c = search needs
-
-same-length : tie.Need-same-length Inv-loop μ-loop
-same-length c = laws.wrote-length (written (c .before .before .before)) (so-far-fits (c .before .before .before .before .before .before .before .before))
-
-returns : tie.Need-returns Inv-loop μ-loop
-returns c =
-    let b = c .before .before .before .before .before .before .before .before in
-    let h = bodies.ends _ 1 (step-in _) (ran b) _ (sym (c .before .before .step-at .ensures) ∙ ap nextOf (c .enum-told .given .1)) in
-    rw (sym (ap (λ (x : Body). x .value) h)) (written (c .before .before .before))
+loop-again-2 : tie.Need-loop-again-2 Inv-loop μ-loop
+loop-again-2 c =
+    let w = c .before .before in
+    let b = w .before .before .before .before in
+    (so-far (run-from b) ++ passed b, ran b, further (run-from b) (passed b) _ _ (ran b) (w .put-forms .ensures))
 
 pub put-body-spec : {M : Type 1} → statement M
 put-body-spec =
@@ -214,8 +242,22 @@ put-body-spec =
     Inv-loop
     μ-loop
     last-len-requires
+    sub-end
     loop-holds
+    code-at-requires
+    sub-put-value
+    part-put-value-start
+    part-put-value-end
+    code-value-requires
+    put-value-requires
+    add-at
+    code-len-requires
+    add-i
+    loop-less
+    loop-again
     plain-end-requires
+    same-length
+    returns
     sub-put-forms
     part-put-forms-start
     part-put-forms-end
@@ -223,17 +265,6 @@ put-body-spec =
     part-put-forms-start-2
     part-put-forms-end-2
     put-forms-requires
-    add-at
-    step-at-requires
-    enum-known-next
-    sub-put-value
-    part-put-value-start
-    part-put-value-end
-    put-value-requires
     add-at-2
-    add-i
-    loop-less
-    loop-again
-    enum-told
-    same-length
-    returns)
+    loop-less-2
+    loop-again-2)

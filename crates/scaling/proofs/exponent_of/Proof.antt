@@ -8,7 +8,7 @@ use native.Mathlib.Omega.{arith}
 use lib.ListN.{length, getD, take, drop}
 use Rattle.scan.proofs.Parts.{part-to-end}
 use Rattle.integer.specs.Value.{number}
-use Rattle.float.proofs.Inside.{byte-inside}
+use Rattle.scan.proofs.Bytes.{byte-inside}
 use Rattle.scaling.specs.Scaled.{capped}
 use Rattle.scaling.proofs.Signs as signs
 use Rattle.scaling.proofs.exponent_of.Statement.{statement}

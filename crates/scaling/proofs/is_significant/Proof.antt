@@ -2,7 +2,7 @@
 -- Assumes nothing.
 use native.Mathlib.Omega.{arith}
 use borrow.Author.Tests.{lt-leb, le-leb}
-use Rattle.scaling.specs.Figures.{significant}
+use Rattle.scaling.specs.Digits.{significant}
 use Rattle.scaling.proofs.is_significant.Statement.{statement}
 use Rattle.scaling.proofs.is_significant.Tie as tie
 

@@ -6,8 +6,8 @@ use Prim.Native.Nat.{ℕ, _+_, _-_, _≤_, _<_}
 use native.Mathlib.Omega.{arith}
 use lib.ListN.{length, take}
 use lib.Seq.{take-length}
-use Rattle.scaling.specs.Figures.{lastEnd}
-use Rattle.scaling.proofs.Figures.{last-found, last-pass}
+use Rattle.scaling.specs.Digits.{lastEnd}
+use Rattle.scaling.proofs.Digits.{last-found, last-pass}
 use Rattle.scaling.proofs.last_end.Statement.{statement}
 use Rattle.scaling.proofs.last_end.Tie as tie
 

@@ -6,13 +6,13 @@ use Prim.Native.Nat.{_+_, _-_, _≤_}
 use lib.ListN.{length, drop}
 use Rattle.scan.specs.Run.{run}
 use Rattle.scan.proofs.Runs.{run-more, run-stop, run-end}
-use Rattle.scaling.specs.Figures.{idle}
-use Rattle.scaling.proofs.Figures.{idle-is, idle-not}
+use Rattle.scaling.specs.Digits.{insignificant}
+use Rattle.scaling.proofs.Digits.{insignificant-is, insignificant-not}
 use Rattle.scaling.proofs.lead_len.Statement.{statement}
 use Rattle.scaling.proofs.lead_len.Tie as tie
 
 abbrev Inv-loop : tie.InvT-loop
-Inv-loop s i₀ i = (i ≤ length s) × (i + run idle (drop i s) ≡ run idle s)
+Inv-loop s i₀ i = (i ≤ length s) × (i + run insignificant (drop i s) ≡ run insignificant s)
 
 abbrev μ-loop : tie.MeasureT-loop
 μ-loop s i₀ i = length s - i
@@ -29,7 +29,7 @@ is-significant-requires c κs = search needs
 returns : tie.Need-returns Inv-loop μ-loop
 returns c =
     let b = c .before .before .before in
-    sym (run-stop idle _ _ (b .loop-test .taken) (idle-not _ (sym (c .before .is-significant .ensures) ∙ c .if1 .taken))) ∙ b .before .loop .inv .1
+    sym (run-stop insignificant _ _ (b .loop-test .taken) (insignificant-not _ (sym (c .before .is-significant .ensures) ∙ c .if1 .taken))) ∙ b .before .loop .inv .1
 
 add-i : tie.Need-add-i Inv-loop μ-loop
 add-i c = search needs
@@ -40,10 +40,10 @@ loop-less c = search needs
 loop-again : tie.Need-loop-again Inv-loop μ-loop
 loop-again c =
     let b = c .before .before .before in
-    (search needs, sym (run-more idle _ _ (b .loop-test .taken) (idle-is _ (sym (c .before .is-significant .ensures) ∙ c .if1 .left))) ∙ b .before .loop .inv .1)
+    (search needs, sym (run-more insignificant _ _ (b .loop-test .taken) (insignificant-is _ (sym (c .before .is-significant .ensures) ∙ c .if1 .left))) ∙ b .before .loop .inv .1)
 
 returns-2 : tie.Need-returns-2 Inv-loop μ-loop
-returns-2 c = sym (run-end idle _ _ (c .loop-test .left)) ∙ c .before .loop .inv .1
+returns-2 c = sym (run-end insignificant _ _ (c .loop-test .left)) ∙ c .before .loop .inv .1
 
 pub lead-len-spec : {M : Type 1} → statement M
 lead-len-spec =

@@ -4,7 +4,7 @@ use borrow.Author.Needs.{needs}
 use Prim.Native.Nat.{_+_, _≤_}
 use native.Mathlib.Omega.{arith}
 use lib.ListN.{length, length-append}
-use Rattle.scaling.specs.Figures.{figures}
+use Rattle.scaling.specs.Digits.{digitsOf}
 use Rattle.scaling.specs.Scaled.{part, powerForm}
 use Rattle.buffer.proofs.Laws as laws
 use Rattle.scaling.proofs.put_scaled.Statement.{statement}
@@ -13,38 +13,38 @@ use Rattle.scaling.proofs.put_scaled.Tie as tie
 -- what is asked is the digits and the power
 room : (c : tie.Start) →
     let r = c .args .r in
-    length (figures (part (r .first) (r .last) (c .args .mantissa .now))) + length (powerForm r) ≤ length (c .args .out .now)
+    length (digitsOf (part (r .first) (r .last) (c .args .mantissa .now))) + length (powerForm r) ≤ length (c .args .out .now)
 room c = omega (arith, simp length-append at (c .pre .1))
 
-sub-put-figures : tie.Need-sub-put-figures
-sub-put-figures c = search needs
+sub-put-digits : tie.Need-sub-put-digits
+sub-put-digits c = search needs
 
-part-put-figures-start : tie.Need-part-put-figures-start
-part-put-figures-start c = search needs
+part-put-digits-start : tie.Need-part-put-digits-start
+part-put-digits-start c = search needs
 
-part-put-figures-end : tie.Need-part-put-figures-end
-part-put-figures-end c = search needs
+part-put-digits-end : tie.Need-part-put-digits-end
+part-put-digits-end c = search needs
 
-put-figures-requires : tie.Need-put-figures-requires
-put-figures-requires c κs = omega (arith, room (c .before .before .before .before))
+put-digits-requires : tie.Need-put-digits-requires
+put-digits-requires c κs = omega (arith, room (c .before .before .before .before))
 
 sub-put-power : tie.Need-sub-put-power
-sub-put-power c = laws.within (c .before .before .put-figures .ensures) (omega (arith, room (c .before .before .before .before .before .before .before)))
+sub-put-power c = laws.within (c .before .before .put-digits .ensures) (omega (arith, room (c .before .before .before .before .before .before .before)))
 
 part-put-power-start : tie.Need-part-put-power-start
-part-put-power-start c = laws.within (c .before .before .put-figures .ensures) (omega (arith, room (c .before .before .before .before .before .before .before)))
+part-put-power-start c = laws.within (c .before .before .put-digits .ensures) (omega (arith, room (c .before .before .before .before .before .before .before)))
 
 part-put-power-end : tie.Need-part-put-power-end
 part-put-power-end c = search needs
 
 put-power-requires : tie.Need-put-power-requires
-put-power-requires c κs = laws.room _ (c .before .before .before .put-figures .ensures) (room (c .before .before .before .before .before .before .before .before))
+put-power-requires c κs = laws.room _ (c .before .before .before .put-digits .ensures) (room (c .before .before .before .before .before .before .before .before))
 
 add-result : tie.Need-add-result
 add-result c =
     let t = c .before .before .before .before .before .before in
     let a = t .before .before .before .before .before in
-    omega (arith, t .put-figures .ensures .count, c .before .before .put-power .ensures .count, room a, a .good)
+    omega (arith, t .put-digits .ensures .count, c .before .before .put-power .ensures .count, room a, a .good)
 
 same-length : tie.Need-same-length
 same-length c = search needs
@@ -52,16 +52,16 @@ same-length c = search needs
 returns : tie.Need-returns
 returns c =
     let t = c .before .before .before .before .before .before in
-    laws.behind (t .put-figures .ensures) (c .before .before .put-power .ensures) (room (t .before .before .before .before .before))
+    laws.behind (t .put-digits .ensures) (c .before .before .put-power .ensures) (room (t .before .before .before .before .before))
 
 pub put-scaled-spec : {M : Type 1} → statement M
 put-scaled-spec =
     tie.close
     (tie.spec
-    sub-put-figures
-    part-put-figures-start
-    part-put-figures-end
-    put-figures-requires
+    sub-put-digits
+    part-put-digits-start
+    part-put-digits-end
+    put-digits-requires
     sub-put-power
     part-put-power-start
     part-put-power-end

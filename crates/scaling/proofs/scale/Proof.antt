@@ -5,7 +5,7 @@ use mathlib.Core.Path.{_≡_, sym, _∙_}
 use Prim.Native.Nat.{_≤_}
 use native.Mathlib.Omega.{arith}
 use lib.ListN.{length, take}
-use Rattle.scaling.proofs.Figures.{part-short}
+use Rattle.scaling.proofs.Digits.{part-short}
 use Rattle.scaling.proofs.Capped.{capped-most}
 use Rattle.scaling.proofs.Texts as texts
 use Rattle.scaling.proofs.scale.Statement.{statement}
@@ -37,29 +37,29 @@ returns c =
 lead-len-requires : tie.Need-lead-len-requires
 lead-len-requires c κs = search needs
 
-sub-figures-len : tie.Need-sub-figures-len
-sub-figures-len c = inside (c .before .before)
+sub-digits-len : tie.Need-sub-digits-len
+sub-digits-len c = inside (c .before .before)
 
-part-figures-len-start : tie.Need-part-figures-len-start
-part-figures-len-start c = inside (c .before .before)
+part-digits-len-start : tie.Need-part-digits-len-start
+part-digits-len-start c = inside (c .before .before)
 
-part-figures-len-end : tie.Need-part-figures-len-end
-part-figures-len-end c = omega (arith, order (c .before .before .before .before .before))
+part-digits-len-end : tie.Need-part-digits-len-end
+part-digits-len-end c = omega (arith, order (c .before .before .before .before .before))
 
-figures-len-requires : tie.Need-figures-len-requires
-figures-len-requires c κs = search needs
+digits-len-requires : tie.Need-digits-len-requires
+digits-len-requires c κs = search needs
 
-sub-figures-len-2 : tie.Need-sub-figures-len-2
-sub-figures-len-2 c = order (c .before .before .before .before .before .before .before) .0
+sub-digits-len-2 : tie.Need-sub-digits-len-2
+sub-digits-len-2 c = order (c .before .before .before .before .before .before .before) .0
 
-part-figures-len-start-2 : tie.Need-part-figures-len-start-2
-part-figures-len-start-2 c = order (c .before .before .before .before .before .before .before) .0
+part-digits-len-start-2 : tie.Need-part-digits-len-start-2
+part-digits-len-start-2 c = order (c .before .before .before .before .before .before .before) .0
 
-part-figures-len-end-2 : tie.Need-part-figures-len-end-2
-part-figures-len-end-2 c = omega (arith, order (c .before .before .before .before .before .before .before))
+part-digits-len-end-2 : tie.Need-part-digits-len-end-2
+part-digits-len-end-2 c = omega (arith, order (c .before .before .before .before .before .before .before))
 
-figures-len-requires-2 : tie.Need-figures-len-requires-2
-figures-len-requires-2 c κs = search needs
+digits-len-requires-2 : tie.Need-digits-len-requires-2
+digits-len-requires-2 c κs = search needs
 
 exponent-start-requires : tie.Need-exponent-start-requires
 exponent-start-requires c κs = order (c .before .before .before .before .before .before .before .before .before) .1 .0
@@ -80,17 +80,17 @@ size-most : (c : tie.After-exponent-of) → c .exponent-of .result .size ≤ 200
 size-most c = capped-most _ _ (c .exponent-of .ensures .1)
 
 -- a text has no more digits than bytes
-zeros-most : (c : tie.After-figures-len) → c .figures-len .result ≤ 65536
+zeros-most : (c : tie.After-digits-len) → c .digits-len .result ≤ 65536
 zeros-most c =
     let a = c .before .before .before .before .before .before .before in
     let l = c .before .before .before .before .last-end .result in
-    omega (arith, c .figures-len .ensures .1, part-short l (a .args .lit .«end_fractional_part») 65536 (a .args .text .now) (a .pre .0))
+    omega (arith, c .digits-len .ensures .1, part-short l (a .args .lit .«end_fractional_part») 65536 (a .args .text .now) (a .pre .0))
 
-places-most : (c : tie.After-figures-len2) → c .figures-len2 .result ≤ 65536
+places-most : (c : tie.After-digits-len2) → c .digits-len2 .result ≤ 65536
 places-most c =
     let a = c .before .before .before .before .before .before .before .before .before in
     let l = a .args .lit in
-    omega (arith, c .figures-len2 .ensures .1, part-short (l .«end_integer_part») (l .«end_fractional_part») 65536 (a .args .text .now) (a .pre .0))
+    omega (arith, c .digits-len2 .ensures .1, part-short (l .«end_integer_part») (l .«end_fractional_part») 65536 (a .args .text .now) (a .pre .0))
 
 add-to-power : tie.Need-add-to-power
 add-to-power c = omega (arith, size-most (c .before .before), places-most (c .before .before .before .before .before))
@@ -108,7 +108,7 @@ returns-2 c =
     let a = l .before .before .before in
     rw (c .to-power .ensures)
     (texts.found-down _ _ _ _ (a .pre .0) (a .pre .1) (l .last-end .result) _ _ _ _ _ _ (l .last-end .ensures) (r .before .if1 .left) (r .lead-len .ensures)
-    (z .figures-len .ensures .0) (p .figures-len2 .ensures .0) (x .before .before .exponent-start .ensures .1)
+    (z .digits-len .ensures .0) (p .digits-len2 .ensures .0) (x .before .before .exponent-start .ensures .1)
     (x .exponent-of .ensures .0) (x .exponent-of .ensures .1) (c .before .before .if2 .taken))
 
 add-to-power-2 : tie.Need-add-to-power-2
@@ -127,7 +127,7 @@ returns-3 c =
     let a = l .before .before .before in
     rw (c .to-power2 .ensures)
     (texts.found-up _ _ _ _ (a .pre .0) (a .pre .1) (l .last-end .result) _ _ _ _ _ _ (l .last-end .ensures) (r .before .if1 .left) (r .lead-len .ensures)
-    (z .figures-len .ensures .0) (p .figures-len2 .ensures .0) (x .before .before .exponent-start .ensures .1)
+    (z .digits-len .ensures .0) (p .digits-len2 .ensures .0) (x .before .before .exponent-start .ensures .1)
     (x .exponent-of .ensures .0) (x .exponent-of .ensures .1) (c .before .before .if2 .left))
 
 pub scale-spec : {M : Type 1} → statement M
@@ -138,14 +138,14 @@ scale-spec =
     last-end-requires
     returns
     lead-len-requires
-    sub-figures-len
-    part-figures-len-start
-    part-figures-len-end
-    figures-len-requires
-    sub-figures-len-2
-    part-figures-len-start-2
-    part-figures-len-end-2
-    figures-len-requires-2
+    sub-digits-len
+    part-digits-len-start
+    part-digits-len-end
+    digits-len-requires
+    sub-digits-len-2
+    part-digits-len-start-2
+    part-digits-len-end-2
+    digits-len-requires-2
     exponent-start-requires
     sub-exponent-of
     part-exponent-of-start

@@ -58,7 +58,7 @@ put-form-requires : tie.Need-put-form-requires
 put-form-requires c κs =
     let f = c .before .before .found4 in
     let p = rw (f .given .1) at (c .before .before .before .before .before .before .pre) in
-    ((utf8 _ (p .0), string-read _ Text (f .given .0 .0) (p .0)), p .1 .room)
+    (((short _ (p .0), utf8 _ (p .0)), string-read _ Text (f .given .0 .0) (p .0)), p .1 .room)
 
 enum-known-found-5 : tie.Need-enum-known-found-5
 enum-known-found-5 c = search needs
@@ -73,7 +73,7 @@ put-form-requires-2 : tie.Need-put-form-requires-2
 put-form-requires-2 c κs =
     let f = c .before .before .found6 in
     let p = rw (f .given .1) at (c .before .before .before .before .before .before .pre) in
-    ((utf8 _ (p .0), string-read _ Bytes (f .given .0 .0) (p .0)), p .1 .room)
+    (((short _ (p .0), utf8 _ (p .0)), string-read _ Bytes (f .given .0 .0) (p .0)), p .1 .room)
 
 enum-known-found-7 : tie.Need-enum-known-found-7
 enum-known-found-7 c = search needs
@@ -82,7 +82,7 @@ put-form-requires-3 : tie.Need-put-form-requires-3
 put-form-requires-3 c κs =
     let f = c .before .before .found7 in
     let p = rw (f .given .1) at (c .before .before .before .before .before .before .pre) in
-    ((utf8 _ (p .0), string-read _ C (f .given .0 .0) (p .0)), p .1 .room)
+    (((short _ (p .0), utf8 _ (p .0)), string-read _ C (f .given .0 .0) (p .0)), p .1 .room)
 
 returns : tie.Need-returns
 returns c = no-len (rw (c .enum-told .given .1) at (c .before .before .before .before .pre .1 .form))

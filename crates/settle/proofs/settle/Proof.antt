@@ -1,16 +1,21 @@
 -- `settle::settle` meets its contract.
 -- Assumes nothing.
 use borrow.Author.Needs.{needs}
+use borrow.Author.Tests.{not-false}
+use mathlib.Core.Logic.{⊎-elim}
 use mathlib.Core.Path.{_≡_, refl, sym, ap, _∙_}
+use lib.ListN.{length}
 use Rattle.err.specs.Reading.{outcomeOf}
-use Rattle.settle.specs.Settled.{settledOf, measureOf}
-use Rattle.settle.specs.declared.Settled.the-variants as settled
-use Rattle.settle.proofs.Forms.{formed-fits, settle-refused, settle-small, settle-written}
+use Rattle.settle.specs.Settled.{formed, settledOf, measureOf, formBy, kindIn, Fits}
+use Rattle.settle.proofs.Forms.{formed-fits, roomy-fits, settle-refused, settle-small, settle-written}
 use Rattle.settle.proofs.settle.Statement.{statement}
 use Rattle.settle.proofs.settle.Tie as tie
 
 read-requires : tie.Need-read-requires
 read-requires c κs = search needs
+
+is-roomy-requires : tie.Need-is-roomy-requires
+is-roomy-requires c κs = search needs
 
 measure-of-requires : tie.Need-measure-of-requires
 measure-of-requires c κs = search needs
@@ -25,46 +30,58 @@ returns : tie.Need-returns
 returns c =
     let told = c .enum-told .given .1 in
     let m = c .before .before in
-    let a = settle-refused _ _ _ (m .before .read .ensures .0) (sym (ap settledOf told) ∙ m .measure-of .ensures) in
+    let a = settle-refused _ _ _ (m .before .before .before .read .ensures .0) (sym (ap settledOf told) ∙ m .measure-of .ensures) in
     (rw told (a .0), (a .1, refl))
-
--- the form is measured
-is : (c : tie.After-measure) →
-    let a = c .before .before .before .before .before .before .args in
-    let g = c .measure .given in
-    settledOf (settled.Formed (g .0 .0) (g .0 .1 .0)) ≡ measureOf (a .text .now) (outcomeOf (c .before .before .before .read .result))
-is c = sym (ap settledOf (c .measure .given .1)) ∙ c .before .before .measure-of .ensures
 
 returns-2 : tie.Need-returns-2
 returns-2 c =
     let k = c .before .before in
-    let a = settle-small _ _ _ (k .before .before .before .read .ensures .0) (is k) (c .if1 .taken) in
+    let m = k .before .before in
+    let a = settle-small _ _ _ (m .before .before .before .read .ensures .0) (sym (ap settledOf (k .measure .given .1)) ∙ m .measure-of .ensures) (c .if2 .taken) in
     (a .0, (a .1, refl))
 
+-- measured or not, the form is there and fits
+fits : (c : tie.Joined1) →
+    let a = c .before .before .before .before .before .args in
+    let s = a .text .now in
+    let o = outcomeOf (c .before .before .read .result) in
+    Fits s o (length (a .out .now)) × (formed (kindIn o) (length (formBy s o)) ≡ measureOf s o)
+fits c =
+    let b = c .before in
+    ⊎-elim
+    (λ w. formed-fits _ _ (sym (w .1 .ensures) ∙ ap settledOf (w .3 .given .1)) (w .5 .left))
+    (λ w. roomy-fits _ _ (b .before .read .result) (b .before .read .ensures .0) (sym (b .is-roomy .ensures) ∙ not-false _ (w .left)))
+    (c .if1 .came)
+
 put-reading-requires : tie.Need-put-reading-requires
-put-reading-requires c κs =
-    let k = c .before .before .before in
-    (k .before .before .before .read .ensures .0, formed-fits _ _ (sym (is k)) (c .before .if1 .left) .0)
+put-reading-requires c κs = (c .before .before .before .read .ensures .0, fits (c .before) .0)
+
+kind-of-requires : tie.Need-kind-of-requires
+kind-of-requires c κs = search needs
 
 same-length : tie.Need-same-length
 same-length c = search needs
 
 returns-3 : tie.Need-returns-3
 returns-3 c =
-    let k = c .before .before .before .before .before .before in
-    let a = settle-written _ _ _ (k .before .before .before .read .ensures .0) (is k) (c .before .before .before .before .if1 .left) in
-    (a .0, (c .before .before .put-reading .ensures .bytes ∙ a .1, refl))
+    let p = c .before .before .before in
+    let j = p .before .before in
+    let f = fits j in
+    let a = settle-written _ _ _ (j .before .before .read .ensures .0) (f .1) (f .0 .room) in
+    (rw (c .kind-of .ensures, p .put-reading .ensures .count) (a .0), (p .put-reading .ensures .bytes ∙ a .1, refl))
 
 pub settle-spec : {M : Type 1} → statement M
 settle-spec =
     tie.close
     (tie.spec
     read-requires
+    is-roomy-requires
     measure-of-requires
     enum-known-measure
     enum-told
     returns
     returns-2
     put-reading-requires
+    kind-of-requires
     same-length
     returns-3)

@@ -29,8 +29,11 @@ unescape-string-requires : tie.Need-unescape-string-requires
 unescape-string-requires c κs =
     let e = c .before .before in
     let f = e .before .before in
-    let a = f .before .before .before .args in
-    omega (arith, c .before .offset .ensures, opening-inside (a .k) (a .text .now) (told-quoted (a .k) (a .text .now) (f .opening-of .result) (f .opening-of .ensures) (e .enum-told .given .1)))
+    let b = f .before .before .before in
+    let a = b .args in (
+      omega (arith, c .before .offset .ensures, opening-inside (a .k) (a .text .now) (told-quoted (a .k) (a .text .now) (f .opening-of .result) (f .opening-of .ensures) (e .enum-told .given .1))),
+      b .pre,
+    )
 
 enum-told-2 : tie.Need-enum-told-2
 enum-told-2 c = search needs

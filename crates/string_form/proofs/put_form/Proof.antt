@@ -21,7 +21,7 @@ fits : (c : tie.After-slice-known) → let a = c .before .args in
 fits c =
     let a = c .before .args in
     let p = c .before .pre in
-    omega (arith, p .1, read-length (a .k) (a .text .now) (a .lit) (p .0 .0) (p .0 .1))
+    omega (arith, p .1, read-length (a .k) (a .text .now) (a .lit) (p .0 .0 .1) (p .0 .1))
 
 put-opening-requires : tie.Need-put-opening-requires
 put-opening-requires c κs = omega (arith, fits (c .before .before))
@@ -38,7 +38,8 @@ part-put-value-end c = search needs
 put-value-requires : tie.Need-put-value-requires
 put-value-requires c κs =
     let b = c .before .before .before .before .before .before in
-    (b .before .pre .0 .1, laws.room _ (c .before .before .before .put-opening .ensures) (omega (arith, fits b)))
+    let p = b .before .pre .0 in
+    ((p .0 .0, p .1), laws.room _ (c .before .before .before .put-opening .ensures) (omega (arith, fits b)))
 
 -- the value stands behind the opening
 joined : (c : tie.After-put-value) →
@@ -85,7 +86,7 @@ returns c =
     let b = c .before .before .before .before .before .before .before .before .before .before .before .before .before in
     let a = b .before .args in
     let p = b .before .pre in
-    rw (bare-read (a .k) (a .text .now) (a .lit) (p .0 .0) (p .0 .1), ← append-assoc (openingOf (a .k)))
+    rw (bare-read (a .k) (a .text .now) (a .lit) (p .0 .0 .1) (p .0 .1), ← append-assoc (openingOf (a .k)))
     (laws.behind (joined (c .before .before .before .before .before .before)) (c .before .before .put-one .ensures) (simp length-append (omega (arith, fits b))))
 
 pub put-form-spec : {M : Type 1} → statement M

@@ -43,7 +43,7 @@ two-requires c κs = search needs
 returns-4 : tie.Need-returns-4
 returns-4 c =
     let b = c .before .before .before .before .before in
-    c .two .ensures ∙ sym (decode-two _ _ _ (b .before .before .if1 .left) (b .char-len .ensures) (c .before .before .if4 .taken) (c .before .before .before .if3 .left))
+    c .two .ensures ∙ sym (decode-two _ _ _ (b .before .before .if1 .left) (b .char-len .ensures) (c .before .before .if4 .taken))
 
 add-three : tie.Need-add-three
 add-three c = search needs
@@ -63,7 +63,7 @@ three-requires c κs = search needs
 returns-5 : tie.Need-returns-5
 returns-5 c =
     let b = c .before .before .before .before .before .before .before in
-    c .three .ensures ∙ sym (decode-three _ _ _ (b .before .before .if1 .left) (b .char-len .ensures) (c .before .before .before .if5 .taken) (c .before .before .before .before .before .if3 .left))
+    c .three .ensures ∙ sym (decode-three _ _ _ (b .before .before .if1 .left) (b .char-len .ensures) (c .before .before .before .if5 .taken))
 
 add-four : tie.Need-add-four
 add-four c = search needs
@@ -89,7 +89,7 @@ four-requires c κs = search needs
 returns-6 : tie.Need-returns-6
 returns-6 c =
     let b = c .before .before .before .before .before .before .before .before .before in
-    c .four .ensures ∙ sym (decode-four _ _ _ (b .before .before .if1 .left) (b .char-len .ensures) (c .before .before .before .before .if6 .taken) (c .before .before .before .before .before .before .before .if3 .left))
+    c .four .ensures ∙ sym (decode-four _ _ _ (b .before .before .if1 .left) (b .char-len .ensures) (c .before .before .before .before .if6 .taken))
 
 returns-7 : tie.Need-returns-7
 returns-7 c =

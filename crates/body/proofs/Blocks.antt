@@ -1,0 +1,75 @@
+-- The run of a test in a block, by the least place that fails it, and a run that is passed block by block. For any test.
+-- Assumes nothing.
+use mathlib.Core.Path.{_≡_, refl}
+use mathlib.Core.Bool.{Bool, true, false, cond}
+use mathlib.Core.List.{List, [], _∷_}
+use Prim.Native.Nat.{ℕ, zero, suc, _+_, _-_, _≤_, _<_, min}
+use native.Mathlib.Omega.{arith}
+use lib.Dec.{ltb}
+use lib.ListN.{length, getD, take, drop}
+use lib.Seq.{drop-drop}
+use Rattle.scan.specs.Run.{run}
+use Rattle.scan.proofs.Cases.{cond-lt}
+use Rattle.scan.proofs.Runs.{run-le, run-more, run-stop, run-end}
+
+-- ---- in a block of n bytes
+
+-- A loop stands at j, and m is the least place before it that fails, or n: the run ends there, or where the run from j on does.
+pub record Least (p : ℕ → Bool) (s : List ℕ) (n m j : ℕ) : Type 0 where
+  pub within : j ≤ n
+  pub small : m ≤ n
+  pub is : min m (j + run p (drop j s)) ≡ run p s
+
+module _ (p : ℕ → Bool) (s : List ℕ) (n : ℕ) (size : length s ≡ n) where
+  pub least-start : Least p s n n 0
+  least-start = record { within = omega arith; small = omega arith; is = omega (arith, run-le p s) }
+
+  -- x is the place of the byte at j, where it fails, or n
+  pub least-more : (m j x y : ℕ) → Least p s n m j → j < n → x ≡ cond (p (getD s j 0)) n j → y ≡ cond (ltb x m) x m → Least p s n y (j + 1)
+  least-more m j x y l h e f = rw (f, e) (by-test (p (getD s j 0)) refl)
+    where
+      by-test : (t : Bool) → p (getD s j 0) ≡ t → Least p s n (cond (ltb (cond t n j) m) (cond t n j) m) (j + 1)
+      by-test true g =
+          let r = run-more p s j (omega arith) g in
+          cond-lt (λ (y : ℕ). Least p s n y (j + 1)) n m (λ o. omega (arith, l .small))
+          (λ o. record { within = omega arith; small = l .small; is = omega (arith, l .is) })
+      by-test false g =
+          let r = run-stop p s j (omega arith) g in
+          cond-lt (λ (y : ℕ). Least p s n y (j + 1)) j m
+          (λ o. record { within = omega arith; small = omega arith; is = omega (arith, l .is) })
+          (λ o. record { within = omega arith; small = l .small; is = omega (arith, l .is) })
+
+  -- THE LAW: behind the last byte it is the run.
+  pub least-end : (m j : ℕ) → Least p s n m j → n ≤ j → m ≡ run p s
+  least-end m j l h = omega (arith, l .is, l .small, l .within, run-end p s j (omega arith))
+
+-- ---- by blocks
+
+run-take : (p : ℕ → Bool) (m : ℕ) (s : List ℕ) → run p (take m s) ≡ min m (run p s)
+run-take p zero [] = refl
+run-take p zero (b ∷ s) = omega arith
+run-take p (suc m) [] = omega arith
+run-take p (suc m) (b ∷ s) = by-test (p b) (run-take p m s)
+  where
+    by-test : (t : Bool) → run p (take m s) ≡ min m (run p s) → cond t (suc (run p (take m s))) 0 ≡ min (suc m) (cond t (suc (run p s)) 0)
+    by-test true f = omega arith
+    by-test false f = omega arith
+
+run-past : (p : ℕ → Bool) (m : ℕ) (s : List ℕ) → m ≤ run p s → run p s ≡ m + run p (drop m s)
+run-past p zero s h = omega arith
+run-past p (suc m) [] h = absurd (omega arith)
+run-past p (suc m) (b ∷ s) h = by-test (p b) (run-past p m s) h
+  where
+    by-test : (t : Bool) → (m ≤ run p s → run p s ≡ m + run p (drop m s)) → suc m ≤ cond t (suc (run p s)) 0 → cond t (suc (run p s)) 0 ≡ suc m + run p (drop m s)
+    by-test true f g = omega (arith, f (omega arith))
+    by-test false f g = absurd (omega arith)
+
+-- m is the run in the block of n bytes at i
+module _ (p : ℕ → Bool) (s : List ℕ) (i n m : ℕ) (is : m ≡ run p (take (i + n - i) (drop i s))) where
+  -- the run ends in the block
+  pub block-stop : m < n → i + m ≡ i + run p (drop i s)
+  block-stop h = omega (arith, run-take p (i + n - i) (drop i s))
+
+  -- or goes on behind it
+  pub block-past : n ≤ m → i + run p (drop i s) ≡ i + n + run p (drop (i + n) s)
+  block-past h = rw (← drop-drop) (omega (arith, run-past p n (drop i s) (omega (arith, run-take p (i + n - i) (drop i s)))))

@@ -1,0 +1,141 @@
+-- The code of a step: any but 0 is that of the piece that stands there; where it is 0 and no byte stands for itself, the body ends.
+-- Assumes nothing.
+use mathlib.Core.Path.{_≡_, refl, ap, sym, _∙_}
+use mathlib.Core.Bool.{Bool, true, false, cond}
+use mathlib.Core.List.{List, [], _∷_}
+use Prim.Native.Nat.{ℕ, _+_, _-_, _*_, _≤_, _<_}
+use native.Mathlib.Nat.{add-zero}
+use native.Mathlib.Omega.{arith}
+use borrow.Author.Tests.{eq-eqb, ne-eqb, eqb-false}
+use lib.Dec.{eqb}
+use lib.ListN.{length, getD, take, drop, length-take, length-drop}
+use lib.Seq.{drop-cons, drop-drop, getD-drop}
+use Rattle.scan.specs.Run.{run, Stops}
+use Rattle.scan.proofs.Cases.{cond-in, cond-eq}
+use Rattle.parse.specs.Sets.{blank}
+use Rattle.utf8.specs.Cut.{tail, lastLen, front}
+use Rattle.utf8.proofs.Cuts.{front-length, front-drop}
+use Rattle.escape.specs.Escape.{Escaped, value, bad, escapeOf}
+use Rattle.escape.specs.Code.{pieceCode, escapeCode, codedLen, codedValue}
+use Rattle.escape.specs.declared.Allowed.{Allowed}
+use Rattle.escape.proofs.Escapes.{too-short}
+use Rattle.escape.proofs.Codes.{Coded, code-len, code-value, code-some, EscapeCoded, escape-coded}
+use Rattle.body.specs.Step.{Next, piece, stop, ofEscape, lineBreakOf, backslashOf, plainOf, plainByte, stepOf}
+use Rattle.body.specs.Code.{nextCode, codeOf, Stopped}
+use Rattle.body.proofs.Steps as steps
+use Rattle.body.proofs.Within.{inside}
+use Rattle.body.proofs.Runs.{plain-stops}
+
+-- ---- what a code tells
+
+-- a piece is not empty, and what it stands for has a code of its own
+abbrev NextCoded : Next → Type 0
+NextCoded (piece n u) = (0 < n) × Coded u
+NextCoded (stop e) = Unit {0}
+
+backslash-coded : (k : Allowed) (s : List ℕ) → NextCoded (backslashOf k s)
+unfolding backslashOf lineBreakOf
+backslash-coded k s =
+    let rest : List ℕ = drop 2 s in
+    cond-eq NextCoded (getD s 1 0) 10
+    (λ e. cond-in NextCoded (eqb (run blank rest) (length rest)) (λ f. tt) (λ f. (omega arith, tt)))
+    (λ e. of-escape (escapeOf k (front s)) (escape-coded k (front s)))
+  where
+    of-escape : (e : Escaped) → EscapeCoded e → NextCoded (ofEscape e)
+    of-escape (value u n) h = h
+    of-escape (bad num p) h = tt
+
+-- THE LAW of a code other than 0
+pub code-step : (k : Allowed) (s : List ℕ) (c : ℕ) → c ≡ codeOf k s → (c ≡ 0 → ⊥) → stepOf k s ≡ piece (codedLen c) (codedValue c)
+unfolding codeOf stepOf
+code-step k [] c e z = absurd (z e)
+code-step k (b ∷ s) c e z = by-test (eqb b 92) e
+  where
+    of-next : (x : Next) → NextCoded x → c ≡ nextCode x → x ≡ piece (codedLen c) (codedValue c)
+    of-next (piece n u) h e = rw (e, code-len n u (h .1), code-value n u (h .1))
+    of-next (stop w) h e = absurd (z e)
+
+    by-test : (t : Bool) → c ≡ cond t (nextCode (backslashOf k (b ∷ s))) 0 → cond t (backslashOf k (b ∷ s)) (plainOf k b) ≡ piece (codedLen c) (codedValue c)
+    by-test true e = of-next (backslashOf k (b ∷ s)) (backslash-coded k (b ∷ s)) e
+    by-test false e = absurd (z e)
+
+-- and of 0
+pub code-stops : (k : Allowed) (s : List ℕ) → codeOf k s ≡ 0 → Stops (plainByte k) s → Stopped (stepOf k s)
+unfolding codeOf stepOf
+code-stops k [] e h = tt
+code-stops k (b ∷ s) e h = by-test (eqb b 92) refl e
+  where
+    of-next : (x : Next) → NextCoded x → nextCode x ≡ 0 → Stopped x
+    of-next (piece n u) c e = absurd (code-some n u (c .0) e)
+    of-next (stop w) c e = tt
+
+    by-test : (t : Bool) → eqb b 92 ≡ t → cond t (nextCode (backslashOf k (b ∷ s))) 0 ≡ 0 → Stopped (cond t (backslashOf k (b ∷ s)) (plainOf k b))
+    by-test true q e = of-next (backslashOf k (b ∷ s)) (backslash-coded k (b ∷ s)) e
+    by-test false q e = plain-stops k b h (eqb-false b 92 q)
+
+-- ---- one law for each way to a code, at an offset
+
+escape-short : (k : Allowed) (s : List ℕ) → length (front s) < 2 → (getD s 1 0 ≡ 10 → ⊥) → 0 ≡ nextCode (backslashOf k s)
+escape-short k s l e = ap (λ (x : Escaped). nextCode (ofEscape x)) (too-short k (front s) l) ∙ ap nextCode (steps.is-escape k s e)
+
+code-short : (k : Allowed) (s : List ℕ) → length s < 2 → 0 ≡ codeOf k s
+unfolding codeOf
+code-short k [] h = refl
+code-short k (b ∷ []) h =
+    cond-in (λ (c : ℕ). 0 ≡ c) (eqb b 92)
+    (λ e. escape-short k (b ∷ []) (omega (arith, front-length (b ∷ []))) (λ x. omega arith)) (λ e. refl)
+code-short k (a ∷ b ∷ s) h = absurd (omega arith)
+
+module _ (k : Allowed) (s : List ℕ) (i : ℕ) where
+  pub at-short : length s - i < 2 → 0 ≡ codeOf k (drop i s)
+  at-short h = code-short k (drop i s) (omega (arith, length-drop i s))
+
+  module _ (l : i < length s) where
+    pub at-other : (getD s i 0 ≡ 92 → ⊥) → 0 ≡ codeOf k (drop i s)
+    unfolding codeOf
+    at-other e = rw (drop-cons s i 0 l, ne-eqb _ _ e)
+
+    module _ (e : getD s i 0 ≡ 92) where
+      at-backslash : nextCode (backslashOf k (drop i s)) ≡ codeOf k (drop i s)
+      unfolding codeOf
+      at-backslash = rw (drop-cons s i 0 l, eq-eqb _ _ e)
+
+      -- a dropped line break, and n blanks behind it
+      module _ (f : getD s (i + 1) 0 ≡ 10) (n : ℕ) (is : n ≡ run blank (drop (i + 2) s)) where
+        at-break : nextCode (lineBreakOf (drop (i + 2) s)) ≡ codeOf k (drop i s)
+        at-break = rw drop-drop at (ap nextCode (steps.is-break k (drop i s) (getD-drop i s 1 0 ∙ f))) ∙ at-backslash
+
+        pub at-open : i + 2 + n ≡ length s → 0 ≡ codeOf k (drop i s)
+        at-open g =
+            ap nextCode (steps.break-open (drop (i + 2) s) n is (omega (arith, length-drop (i + 2) s))) ∙ at-break
+
+        pub at-blanks : (i + 2 + n ≡ length s → ⊥) → (n + 2) * 4294967296 ≡ codeOf k (drop i s)
+        unfolding pieceCode
+        at-blanks g =
+            let h = inside s (i + 1) 10 f (omega arith) in
+            sym (add-zero ((n + 2) * 4294967296))
+            ∙ ap nextCode (steps.break-drops (drop (i + 2) s) n is (λ x. g (omega (arith, length-drop (i + 2) s))))
+            ∙ at-break
+
+      -- an escape, which sees what stands before `end`
+      module _ (f : getD s (i + 1) 0 ≡ 10 → ⊥) (end : ℕ) (is : end ≡ length s - lastLen s) where
+        seen : front (drop i s) ≡ take (end - i) (drop i s)
+        unfolding tail
+        seen = front-drop s i l (ap tail e) ∙ ap (λ (n : ℕ). take (n - i) (drop i s)) (sym is)
+
+        other : getD (drop i s) 1 0 ≡ 10 → ⊥
+        other x = f (sym (getD-drop i s 1 0) ∙ x)
+
+        pub at-cut : end ≤ i + 1 → 0 ≡ codeOf k (drop i s)
+        at-cut h =
+            escape-short k (drop i s) (rw seen (omega (arith, length-take (end - i) (drop i s)))) other ∙ at-backslash
+
+        pub at-escape : (c : ℕ) → c ≡ escapeCode (escapeOf k (take (end - i) (drop i s))) → c ≡ codeOf k (drop i s)
+        at-escape c h =
+            h ∙ ap (λ (t : List ℕ). escapeCode (escapeOf k t)) (sym seen)
+            ∙ of-escape (escapeOf k (front (drop i s)))
+            ∙ ap nextCode (steps.is-escape k (drop i s) other) ∙ at-backslash
+          where
+            of-escape : (x : Escaped) → escapeCode x ≡ nextCode (ofEscape x)
+            of-escape (value u n) = refl
+            of-escape (bad num p) = refl

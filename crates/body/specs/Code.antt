@@ -1,0 +1,24 @@
+-- The piece that a backslash starts, as one number, and the steps that end a body.
+-- Assumes nothing.
+use Prim.Native.Nat.{ℕ}
+use mathlib.Core.Bool.{cond}
+use mathlib.Core.List.{List, [], _∷_}
+use lib.Dec.{eqb}
+use Rattle.escape.specs.Code.{pieceCode}
+use Rattle.escape.specs.declared.Allowed.{Allowed}
+use Rattle.body.specs.Step.{Next, piece, stop, backslashOf}
+
+-- a step that goes on, as one number; 0 for the end
+abbrev pub nextCode : Next → ℕ
+nextCode (piece n u) = pieceCode n u
+nextCode (stop e) = 0
+
+-- what a backslash at the front starts; 0 where it ends the body, or where no backslash stands
+unfoldable pub codeOf : Allowed → List ℕ → ℕ
+codeOf k [] = 0
+codeOf k (b ∷ s) = cond (eqb b 92) (nextCode (backslashOf k (b ∷ s))) 0
+
+-- the step ends the body
+abbrev pub Stopped : Next → Type 0
+Stopped (piece n u) = ⊥
+Stopped (stop e) = Unit {0}

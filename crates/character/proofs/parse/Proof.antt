@@ -1,0 +1,81 @@
+-- `character::parse` meets its contract.
+-- Assumes nothing.
+use mathlib.Core.Path.{_≡_, ap, _∙_}
+use mathlib.Core.Bool.{cond}
+use borrow.Author.Tests.{not-true, not-false}
+use Rattle.character.specs.Single.{singleOf, singleAt, readBy, startFault}
+use Rattle.character.proofs.Start.{read-none, read-some}
+use Rattle.character.proofs.Values.{value-fits}
+use borrow.Author.Needs.{needs}
+use Rattle.character.proofs.parse.Statement.{statement}
+use Rattle.character.proofs.parse.Tie as tie
+
+perr-nowhere-requires : tie.Need-perr-nowhere-requires
+perr-nowhere-requires c κs = search needs
+
+returns : tie.Need-returns
+returns c =
+    let a = c .before .before .before .args in
+    c .perr-nowhere .ensures ∙ read-none (a .q) (a .text .now) (c .before .if1 .taken)
+
+opens-requires : tie.Need-opens-requires
+opens-requires c κs = search needs
+
+-- the first bytes decide
+by-start : (c : tie.After-opens) →
+    let a = c .before .before .before .args in
+    readBy (a .q) (a .text .now) ≡ cond (c .opens .result) (singleAt (a .q) (a .text .now)) (startFault (a .q))
+by-start c =
+    let a = c .before .before .before .args in
+    read-some (a .q) (a .text .now) (c .before .if1 .left) ∙ rw (← c .opens .ensures)
+
+refused-start-requires : tie.Need-refused-start-requires
+refused-start-requires c κs = search needs
+
+returns-2 : tie.Need-returns-2
+returns-2 c = rw (by-start (c .before .before), not-true (c .before .before .opens .result) (c .before .if2 .taken)) (c .refused-start .ensures)
+
+parse-impl-requires : tie.Need-parse-impl-requires
+parse-impl-requires c κs = search needs
+
+-- behind the quote
+by-single : (c : tie.After-parse-impl) →
+    let a = c .before .before .before .before .before .args in
+    readBy (a .q) (a .text .now) ≡ singleOf (a .q) (c .parse-impl .result)
+by-single c = rw (by-start (c .before .before), not-false (c .before .before .opens .result) (c .before .if2 .left), c .parse-impl .ensures)
+
+enum-known-lit : tie.Need-enum-known-lit
+enum-known-lit c = search needs
+
+reading-requires : tie.Need-reading-requires
+reading-requires c κs =
+    let b = c .before .before .before in
+    let a = b .before .before .before .before .before .args in
+    value-fits (a .q) (a .text .now) (by-single b ∙ ap (singleOf (a .q)) (c .before .lit .given .1))
+
+enum-known-lit-2 : tie.Need-enum-known-lit-2
+enum-known-lit-2 c = search needs
+
+returns-3 : tie.Need-returns-3
+returns-3 c =
+    let b = c .before .before in
+    rw (by-single (b .before .before), b .lit .given .1) (c .reading .ensures)
+
+returns-4 : tie.Need-returns-4
+returns-4 c = rw (by-single (c .before .before .before), c .before .lit2 .given .1)
+
+pub parse-spec : {M : Type 1} → statement M
+parse-spec =
+    tie.close
+    (tie.spec
+    perr-nowhere-requires
+    returns
+    opens-requires
+    refused-start-requires
+    returns-2
+    parse-impl-requires
+    enum-known-lit
+    reading-requires
+    enum-known-lit-2
+    returns-3
+    returns-4)

@@ -1,0 +1,60 @@
+-- `escape::scalar_code` meets its contract.
+-- Assumes nothing.
+use mathlib.Core.Path.{_≡_, sym, _∙_}
+use mathlib.Core.Bool.{true}
+use native.Mathlib.Omega.{arith}
+use borrow.Author.Needs.{needs}
+use borrow.Author.Tests.{not-true, not-false}
+use Rattle.utf8.proofs.Laws.{scalar-lt}
+use Rattle.escape.specs.Code.{pieceCode}
+use Rattle.escape.specs.Escape.{isScalar, uScalar}
+use Rattle.escape.proofs.Within.{scalar-right}
+use Rattle.escape.proofs.scalar_code.Statement.{statement}
+use Rattle.escape.proofs.scalar_code.Tie as tie
+
+bars-requires : tie.Need-bars-requires
+bars-requires c κs = search needs
+
+returns : tie.Need-returns
+unfolding uScalar
+returns c = rw (sym (c .before .bars .ensures) ∙ c .if1 .taken)
+
+is-scalar-requires : tie.Need-is-scalar-requires
+is-scalar-requires c κs = search needs
+
+returns-2 : tie.Need-returns-2
+unfolding uScalar
+returns-2 c =
+    let b = c .before .before in
+    rw (sym (b .before .bars .ensures) ∙ b .if1 .left, sym (c .before .is-scalar .ensures) ∙ not-true _ (c .if2 .taken))
+
+scalar : (c : tie.Else2) → isScalar (c .before .before .before .before .args .v) ≡ true
+scalar c = sym (c .before .is-scalar .ensures) ∙ not-false _ (c .if2 .left)
+
+mul-result : tie.Need-mul-result
+mul-result c = search needs
+
+add-result : tie.Need-add-result
+add-result c = search needs
+
+add-result-2 : tie.Need-add-result-2
+add-result-2 c = omega (arith, scalar-lt _ (scalar-right _ .0 (scalar c)))
+
+returns-3 : tie.Need-returns-3
+unfolding uScalar pieceCode
+returns-3 c =
+    let b = c .before .before in
+    rw (sym (b .before .bars .ensures) ∙ b .if1 .left, scalar c) (omega arith)
+
+pub scalar-code-spec : {M : Type 1} → statement M
+scalar-code-spec =
+    tie.close
+    (tie.spec
+    bars-requires
+    returns
+    is-scalar-requires
+    returns-2
+    mul-result
+    add-result
+    add-result-2
+    returns-3)

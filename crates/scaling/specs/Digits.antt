@@ -1,0 +1,28 @@
+-- The decimal digits of a mantissa, which stand among `_` and a period.
+-- Assumes nothing.
+use mathlib.Core.Bool.{Bool, cond, not, _&&_}
+use mathlib.Core.List.{List, [], _∷_}
+use Prim.Native.Nat.{ℕ, suc}
+use lib.Dec.{eqb, leb}
+
+-- `0` to `9`
+unfoldable pub isDigit : ℕ → Bool
+isDigit b = leb 48 b && leb b 57
+
+-- `1` to `9`
+unfoldable pub significant : ℕ → Bool
+significant b = leb 49 b && leb b 57
+
+-- any byte but those
+unfoldable pub insignificant : ℕ → Bool
+insignificant b = not (significant b)
+
+-- the digits alone
+abbrev pub digitsOf : List ℕ → List ℕ
+digitsOf [] = []
+digitsOf (b ∷ s) = cond (isDigit b) (b ∷ digitsOf s) (digitsOf s)
+
+-- where the last significant digit ends; 0 where there is none
+abbrev pub lastEnd : List ℕ → ℕ
+lastEnd [] = 0
+lastEnd (b ∷ s) = cond (eqb (lastEnd s) 0) (cond (significant b) 1 0) (suc (lastEnd s))
