@@ -87,6 +87,10 @@ module _ (w : Worth) (x : List ℕ) where
 
 -- ---- the measure of a reading o
 
+-- its form is measured, and a buffer of `have` bytes has room for it
+abbrev pub Ready : List ℕ → Outcome → ℕ → Type 0
+Ready s o have = Fits s o have × (formed (kindIn o) (length (formBy s o)) ≡ measureOf s o)
+
 module _ (s : List ℕ) where
   pub measure-refused : (o : Outcome) {m : ℕ} {p : Place} → bareBy s o ≡ bad m p → measureOf s o ≡ withheld m p
   measure-refused (refused n q) e = cc
@@ -119,8 +123,7 @@ module _ (s : List ℕ) where
         measure-by o e ∙ rw (le-leb (length (formBy s o)) 65536 (omega (arith, form-count o e))) (ap (formed (kindIn o)) (sym (form-count o e)))
 
   -- what is measured can be written into a buffer that is as long
-  pub formed-fits : (o : Outcome) {k n have : ℕ} → measureOf s o ≡ formed k n → n ≤ have
-      → Fits s o have × (formed (kindIn o) (length (formBy s o)) ≡ measureOf s o)
+  pub formed-fits : (o : Outcome) {k n have : ℕ} → measureOf s o ≡ formed k n → n ≤ have → Ready s o have
   formed-fits (refused m q) e h = no-form e
   formed-fits (accepted k start vs) e h =
       let f = formed-by (worthOf k s vs) (drop start s) e in
@@ -176,7 +179,7 @@ byte-length b x = rw (byte-style 39 b, length-append) (omega arith)
 
 -- ---- strings, whose forms have at most four bytes for each of the value's, quotes and a letter
 
-pub fits-sum : (n m have : ℕ) → fitsFor n m have ≡ true → (4 * n + 3 + m ≤ 65536) × (4 * n + 3 + m ≤ have)
+fits-sum : (n m have : ℕ) → fitsFor n m have ≡ true → (4 * n + 3 + m ≤ 65536) × (4 * n + 3 + m ≤ have)
 unfolding fitsFor
 fits-sum n m have e =
     let t = and-eq-true-iff (leb (4 * n + 3 + m) 65536) (leb (4 * n + 3 + m) have) .0 e in
@@ -189,8 +192,7 @@ module _ (s : List ℕ) (have : ℕ) where
   string-form Bytes lit = (refl, sym (plain-bare (worth.byte-string _) _ refl))
   string-form C lit = (refl, sym (plain-bare (worth.c-string _) _ refl))
 
-  string-fits : (k : Kind) (lit : StringLit) → let o = stringIn k lit in o ≡ readAt 0 s → roomyBy (length s) o have ≡ true
-      → Fits s o have × (formed (kindIn o) (length (formBy s o)) ≡ measureOf s o)
+  string-fits : (k : Kind) (lit : StringLit) → let o = stringIn k lit in o ≡ readAt 0 s → roomyBy (length s) o have ≡ true → Ready s o have
   string-fits k lit is e =
       let o = stringIn k lit in
       let v = stringValue k s in
@@ -209,8 +211,7 @@ module _ (s : List ℕ) (have : ℕ) where
       formed-fits s o (measure-formed s o (f .1) (omega (arith, m .0))) (omega (arith, m .1))
 
   -- THE LAW: a reading that is roomy has a form that fits, so that neither 47 nor 48 comes
-  pub roomy-fits : (found : Reading) → let o = outcomeOf found in o ≡ readAt 0 s → roomyBy (length s) o have ≡ true
-      → Fits s o have × (formed (kindIn o) (length (formBy s o)) ≡ measureOf s o)
+  pub roomy-fits : (found : Reading) → let o = outcomeOf found in o ≡ readAt 0 s → roomyBy (length s) o have ≡ true → Ready s o have
   roomy-fits (reading.String lit) is e = string-fits Text lit is e
   roomy-fits (reading.ByteString lit) is e = string-fits Bytes lit is e
   roomy-fits (reading.CString lit) is e = string-fits C lit is e

@@ -9,7 +9,6 @@ use escape::Allowed;
 ghost use mathlib.Core.Path.{_≡_};
 ghost use Prim.Native.Nat.{_≤_, _<_};
 ghost use lib.ListN.{length};
-ghost use Rattle.err.specs.Numbers.{numberOf};
 ghost use Rattle.err.specs.Reading.{outcomeOf};
 ghost use Rattle.buffer.specs.Buffer.{Wrote};
 ghost use Rattle.string.specs.String.{offsetOf, allowedIn, openingBy, openingAt, startFault, parsedOf, stringRead, stringValue};

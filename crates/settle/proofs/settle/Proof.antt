@@ -3,11 +3,11 @@
 use borrow.Author.Needs.{needs}
 use borrow.Author.Tests.{not-false}
 use mathlib.Core.Logic.{⊎-elim}
-use mathlib.Core.Path.{_≡_, refl, sym, ap, _∙_}
+use mathlib.Core.Path.{refl, sym, ap, _∙_}
 use lib.ListN.{length}
 use Rattle.err.specs.Reading.{outcomeOf}
-use Rattle.settle.specs.Settled.{formed, settledOf, measureOf, formBy, kindIn, Fits}
-use Rattle.settle.proofs.Forms.{formed-fits, roomy-fits, settle-refused, settle-small, settle-written}
+use Rattle.settle.specs.Settled.{settledOf}
+use Rattle.settle.proofs.Forms.{Ready, formed-fits, roomy-fits, settle-refused, settle-small, settle-written}
 use Rattle.settle.proofs.settle.Statement.{statement}
 use Rattle.settle.proofs.settle.Tie as tie
 
@@ -41,11 +41,8 @@ returns-2 c =
     (a .0, (a .1, refl))
 
 -- measured or not, the form is there and fits
-fits : (c : tie.Joined1) →
-    let a = c .before .before .before .before .before .args in
-    let s = a .text .now in
-    let o = outcomeOf (c .before .before .read .result) in
-    Fits s o (length (a .out .now)) × (formed (kindIn o) (length (formBy s o)) ≡ measureOf s o)
+fits : (c : tie.Joined1) → let a = c .before .before .before .before .before .args in
+    Ready (a .text .now) (outcomeOf (c .before .before .read .result)) (length (a .out .now))
 fits c =
     let b = c .before in
     ⊎-elim

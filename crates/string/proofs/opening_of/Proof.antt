@@ -1,6 +1,5 @@
 -- `string::opening_of` meets its contract.
 -- Assumes nothing.
-use mathlib.Core.Path.{_≡_}
 use borrow.Author.Tests.{eq-eqb, ne-eqb}
 use borrow.Author.Needs.{needs}
 use Rattle.string.proofs.opening_of.Statement.{statement}

@@ -1,6 +1,6 @@
 -- `string::parse` meets its contract.
 -- Assumes nothing.
-use mathlib.Core.Path.{_≡_, sym, ap, _∙_}
+use mathlib.Core.Path.{sym, ap, _∙_}
 use Rattle.string.specs.String.{parsedOf}
 use borrow.Author.Needs.{needs}
 use Rattle.string.proofs.parse.Statement.{statement}

@@ -1,7 +1,6 @@
 -- `string::parse_lit` meets its contract.
 -- Assumes nothing.
-use Prim.Native.Nat.{ℕ}
-use mathlib.Core.Path.{_≡_, sym, ap, _∙_}
+use mathlib.Core.Path.{ap}
 use native.Mathlib.Omega.{arith}
 use Rattle.string.specs.String.{ofQuote}
 use Rattle.string.proofs.Starts.{read-none, read-some, told-quoted, told-raw}
