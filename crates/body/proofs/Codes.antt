@@ -1,23 +1,25 @@
 -- The code of a step: any but 0 is that of the piece that stands there; where it is 0 and no byte stands for itself, the body ends.
 -- Assumes nothing.
-use mathlib.Core.Path.{_≡_, refl, ap, sym, _∙_}
-use mathlib.Core.Bool.{Bool, true, false, cond}
+use mathlib.Core.Path.{_≡_, refl, ap, sym, _∙_, subst}
+use mathlib.Core.Bool.{Bool, true, false, cond, not, _&&_}
 use mathlib.Core.List.{List, [], _∷_}
 use Prim.Native.Nat.{ℕ, _+_, _-_, _*_, _≤_, _<_}
 use native.Mathlib.Nat.{add-zero}
 use native.Mathlib.Omega.{arith}
-use borrow.Author.Tests.{eq-eqb, ne-eqb, eqb-false}
-use lib.Dec.{eqb}
+use borrow.Author.Tests.{eq-eqb, ne-eqb, eqb-true, eqb-false}
+use lib.Dec.{eqb, ltb}
 use lib.ListN.{length, getD, take, drop, length-take, length-drop}
-use lib.Seq.{drop-cons, drop-drop, getD-drop}
+use lib.Seq.{drop-cons, drop-drop, getD-drop, getD-take}
 use Rattle.scan.specs.Run.{run, Stops}
-use Rattle.scan.proofs.Cases.{cond-in, cond-eq}
+use Rattle.scan.proofs.Cases.{cond-in, cond-lt, cond-eq}
+use Rattle.parse.specs.Class.{classOf}
 use Rattle.parse.specs.Sets.{blank}
-use Rattle.utf8.specs.Cut.{tail, lastLen, front}
+use Rattle.utf8.specs.Cut.{tail, isBoundary, lastLen, front}
 use Rattle.utf8.proofs.Cuts.{front-length, front-drop}
-use Rattle.escape.specs.Escape.{Escaped, value, bad, escapeOf}
+use Rattle.escape.specs.Escape.{Escaped, value, bad, bytesOf, letterOf, xByte, xEscape, escapeBy, escapeOf}
 use Rattle.escape.specs.Code.{pieceCode, escapeCode, codedLen, codedValue}
 use Rattle.escape.specs.declared.Allowed.{Allowed}
+use Rattle.escape.specs.declared.Unescaped.the-variants.{Byte}
 use Rattle.escape.proofs.Escapes.{too-short}
 use Rattle.escape.proofs.Codes.{Coded, code-len, code-value, code-some, EscapeCoded, escape-coded}
 use Rattle.body.specs.Step.{Next, piece, stop, ofEscape, lineBreakOf, backslashOf, plainOf, plainByte, stepOf}
@@ -45,19 +47,28 @@ backslash-coded k s =
     of-escape (value u n) h = h
     of-escape (bad num p) h = tt
 
--- THE LAW of a code other than 0
-pub code-step : (k : Allowed) (s : List ℕ) (c : ℕ) → c ≡ codeOf k s → (c ≡ 0 → ⊥) → stepOf k s ≡ piece (codedLen c) (codedValue c)
-unfolding codeOf stepOf
-code-step k [] c e z = absurd (z e)
-code-step k (b ∷ s) c e z = by-test (eqb b 92) e
-  where
-    of-next : (x : Next) → NextCoded x → c ≡ nextCode x → x ≡ piece (codedLen c) (codedValue c)
-    of-next (piece n u) h e = rw (e, code-len n u (h .1), code-value n u (h .1))
-    of-next (stop w) h e = absurd (z e)
+-- a code other than 0 is that of the piece that a backslash starts
+module _ (k : Allowed) (s : List ℕ) (c : ℕ) (e : c ≡ codeOf k s) (z : c ≡ 0 → ⊥) where
+  code-piece : (stepOf k s ≡ backslashOf k s) × (backslashOf k s ≡ piece (codedLen c) (codedValue c))
+  unfolding codeOf stepOf
+  code-piece = by-front s e
+    where
+      of-next : (x : Next) → NextCoded x → c ≡ nextCode x → x ≡ piece (codedLen c) (codedValue c)
+      of-next (piece n u) h e = rw (e, code-len n u (h .1), code-value n u (h .1))
+      of-next (stop w) h e = absurd (z e)
 
-    by-test : (t : Bool) → c ≡ cond t (nextCode (backslashOf k (b ∷ s))) 0 → cond t (backslashOf k (b ∷ s)) (plainOf k b) ≡ piece (codedLen c) (codedValue c)
-    by-test true e = of-next (backslashOf k (b ∷ s)) (backslash-coded k (b ∷ s)) e
-    by-test false e = absurd (z e)
+      by-test : (s : List ℕ) (p : Next) (t : Bool) → c ≡ cond t (nextCode (backslashOf k s)) 0
+          → (cond t (backslashOf k s) p ≡ backslashOf k s) × (backslashOf k s ≡ piece (codedLen c) (codedValue c))
+      by-test s p true e = (refl, of-next (backslashOf k s) (backslash-coded k s) e)
+      by-test s p false e = absurd (z e)
+
+      by-front : (s : List ℕ) → c ≡ codeOf k s → (stepOf k s ≡ backslashOf k s) × (backslashOf k s ≡ piece (codedLen c) (codedValue c))
+      by-front [] e = absurd (z e)
+      by-front (b ∷ s) e = by-test (b ∷ s) (plainOf k b) (eqb b 92) e
+
+  -- THE LAW of such a code
+  pub code-step : stepOf k s ≡ piece (codedLen c) (codedValue c)
+  code-step = code-piece .0 ∙ code-piece .1
 
 -- and of 0
 pub code-stops : (k : Allowed) (s : List ℕ) → codeOf k s ≡ 0 → Stops (plainByte k) s → Stopped (stepOf k s)
@@ -72,6 +83,38 @@ code-stops k (b ∷ s) e h = by-test (eqb b 92) refl e
     by-test : (t : Bool) → eqb b 92 ≡ t → cond t (nextCode (backslashOf k (b ∷ s))) 0 ≡ 0 → Stopped (cond t (backslashOf k (b ∷ s)) (plainOf k b))
     by-test true q e = of-next (backslashOf k (b ∷ s)) (backslash-coded k (b ∷ s)) e
     by-test false q e = plain-stops k b h (eqb-false b 92 q)
+
+-- ---- `\x`
+
+-- a piece of four bytes that stand for one
+abbrev Four : Next → Type 0
+Four (piece n u) = (n ≡ 4) × (length (bytesOf u) ≡ 1)
+Four (stop e) = Unit {0}
+
+x-byte : (k : Allowed) (v : ℕ) → Four (ofEscape (xByte k v))
+unfolding xByte
+x-byte k v =
+    let P : Escaped → Type 0 = λ x. Four (ofEscape x) in
+    let four : P (value (Byte v) 4) = (refl, refl) in
+    cond-in P (not (k .«byte_escapes») && ltb 127 v) (λ h. tt) (λ h. cond-in P (not (k .«allow_nul») && eqb v 0) (λ z. tt) (λ z. four))
+
+backslash-x : (k : Allowed) (s : List ℕ) → getD s 1 0 ≡ 120 → Four (backslashOf k s)
+unfolding backslashOf escapeOf escapeBy letterOf xEscape
+backslash-x k s e =
+    let f : List ℕ = front s in
+    let P : Escaped → Type 0 = λ x. Four (ofEscape x) in
+    cond-eq Four (getD s 1 0) 10 (λ g. absurd (omega arith))
+    (λ g. cond-lt P (length f) 2 (λ l. tt)
+    (λ l. rw (getD-take (length s - lastLen s) s 1 0 (omega (arith, front-length s)), e)
+    (cond-in P (isBoundary f 4)
+    (λ b. cond-in P (ltb (classOf (getD f 2 0)) 16 && ltb (classOf (getD f 3 0)) 16) (λ d. x-byte k _) (λ d. tt))
+    (λ b. tt))))
+
+-- where `x` stands behind the backslash
+pub code-x : (k : Allowed) (s : List ℕ) (i c : ℕ) → c ≡ codeOf k (drop i s) → (c ≡ 0 → ⊥) → eqb (getD s (i + 1) 0) 120 ≡ true
+    → (codedLen c ≡ 4) × (length (bytesOf (codedValue c)) ≡ 1)
+code-x k s i c e z x =
+    subst Four (code-piece k (drop i s) c e z .1) (backslash-x k (drop i s) (getD-drop i s 1 0 ∙ eqb-true _ _ x))
 
 -- ---- one law for each way to a code, at an offset
 

@@ -12,8 +12,8 @@ use scan::ByteSet;
 ghost use mathlib.Core.Path.{_≡_};
 ghost use mathlib.Core.Bool.{cond};
 ghost use Prim.Native.Nat.{_+_, _-_, _≤_, _<_};
-ghost use lib.Dec.{ltb, leb};
-ghost use lib.ListN.{length, drop};
+ghost use lib.Dec.{eqb, ltb, leb};
+ghost use lib.ListN.{length, getD, drop};
 ghost use Rattle.err.specs.Reading.{hashesOf};
 ghost use Rattle.scan.specs.Run.{run};
 ghost use Rattle.scan.specs.Sets.{only};
@@ -218,7 +218,7 @@ fn backslash(s: &[u8], last: usize, k: Allowed) -> Step
 }
 
 // What stands at i of a quoted body.
-pub fn step_at(s: &[u8], i: usize, last: usize, k: Allowed) -> Step
+fn step_at(s: &[u8], i: usize, last: usize, k: Allowed) -> Step
     requires { ⌜ last ≡ lastLen (now s) ⌝ }
     ensures { λ r. ⌜ nextOf r ≡ stepOf k (drop i (now (s .entry))) ⌝ }
 {
@@ -259,6 +259,16 @@ pub fn code_at(s: &[u8], at: usize, end: usize, k: Allowed) -> u64
     escape::code(&s[at..end], k)
 }
 
+// Whether `x` stands behind the byte at an offset: the length of such an escape is known without its code, so that the next step need not
+// wait for it.
+pub fn is_x(s: &[u8], at: usize) -> bool
+    requires { ⌜ at ≤ length (now s) ⌝ }
+    ensures { λ r. ⌜ r ≡ eqb (getD (now (s .entry)) (at + 1) 0) 120 ⌝ }
+{
+    let next = at + 1;
+    scan::byte_at(s, next) == b'x'
+}
+
 // Why a quoted body ends where neither a piece with a code nor a byte that stands for itself is.
 fn ending_at(s: &[u8], at: usize, last: usize, k: Allowed) -> Ending
     requires { ⌜ (last ≡ lastLen (now s)) × Stopped (stepOf k (drop at (now s))) ⌝ }
@@ -273,7 +283,7 @@ fn ending_at(s: &[u8], at: usize, last: usize, k: Allowed) -> Ending
 }
 
 // The body of a quoted string: s is what stands behind the opening quote, to the end of the text.
-pub fn measure(s: &[u8], k: Allowed) -> Measured
+fn measure(s: &[u8], k: Allowed) -> Measured
     requires { ⌜ length (now s) < 4294967296 ⌝ }
     ensures { λ r. ⌜ Measures (body k (now (s .entry))) r ⌝ }
 {
@@ -291,6 +301,11 @@ pub fn measure(s: &[u8], k: Allowed) -> Measured
         }
         let c = code_at(s, i, end, k);
         if c != 0 {
+            if is_x(s, i) {
+                n += 1;
+                i += 4;
+                continue;
+            }
             n += escape::value_len(escape::code_value(c));
             i += escape::code_len(c);
             continue;
@@ -319,6 +334,11 @@ pub fn write_value(out: &mut [u8], s: &[u8], k: Allowed) -> usize
     loop {
         let c = code_at(s, i, end, k);
         if c != 0 {
+            if is_x(s, i) {
+                at += escape::put_value(&mut out[at..], escape::code_value(c));
+                i += 4;
+                continue;
+            }
             at += escape::put_value(&mut out[at..], escape::code_value(c));
             i += escape::code_len(c);
             continue;
@@ -382,7 +402,7 @@ fn raw_ending_at(s: &[u8], at: usize, h: usize, k: Allowed) -> Ending
 }
 
 // The body of a raw string with h hashes. It stands for its own bytes, so that its length is where it ends.
-pub fn measure_raw(s: &[u8], h: usize, k: Allowed) -> Measured
+fn measure_raw(s: &[u8], h: usize, k: Allowed) -> Measured
     ensures { λ r. ⌜ Measures (rawBody k h (now (s .entry))) r ⌝ }
 {
     let mut e = block_end(s, 0, k);

@@ -2,18 +2,17 @@
 -- Assumes nothing.
 use mathlib.Core.Path.{_≡_, refl, ap, _∙_}
 use mathlib.Core.List.{List}
-use Prim.Native.Nat.{ℕ, _+_, _*_, _%_, _≤_, _<_}
+use Prim.Native.Nat.{ℕ, _+_, _*_, _%_, _<_}
 use native.Mathlib.Omega.{arith}
 use borrow.Author.Tests.{lt-ltb, le-ltb, ne-eqb}
 use lib.ListN.{length}
-use Rattle.err.specs.Outcome.{Place}
 use Rattle.utf8.specs.Utf8.{Scalar}
 use Rattle.utf8.proofs.Laws.{scalar-lt}
 use Rattle.escape.specs.declared.Allowed.{Allowed}
 use Rattle.escape.specs.declared.Unescaped.{Unescaped}
 use Rattle.escape.specs.declared.Unescaped.the-variants.{Nothing, Byte, Unicode}
-use Rattle.escape.specs.Code.{valueCode, pieceCode, escapeCode, codedLen, valueBy, codedValue}
-use Rattle.escape.specs.Escape.{Escaped, value, bad, bytesOf, Valid, escapeOf}
+use Rattle.escape.specs.Code.{valueCode, pieceCode, codedLen, valueBy, codedValue}
+use Rattle.escape.specs.Escape.{Escaped, value, bad, escapeOf}
 use Rattle.escape.proofs.Within.{EscapeIn, escape-in}
 use Rattle.escape.proofs.Values.{Unwraps, EscapeUnwraps, escape-unwraps}
 
@@ -70,29 +69,3 @@ escape-coded k s = both (escapeOf k s) (escape-in k s) (escape-unwraps k s)
     both : (e : Escaped) → EscapeIn (length s) e → EscapeUnwraps k e → EscapeCoded e
     both (value u n) h g = (h .0, coded u g)
     both (bad num p) h g = tt
-
--- what a code c other than 0 says of an escape that was given m bytes
-pub record Taken (e : Escaped) (m c : ℕ) : Type 0 where
-  pub is : e ≡ value (codedValue c) (codedLen c)
-  pub some : 0 < codedLen c
-  pub within : codedLen c ≤ m
-  pub shorter : length (bytesOf (codedValue c)) < codedLen c
-  pub valid : Valid (codedValue c)
-
--- THE LAW: a code other than 0 gives the escape back, and 0 is that of a refusal
-pub code-taken : (k : Allowed) (s : List ℕ) (c : ℕ) → c ≡ escapeCode (escapeOf k s) → (c ≡ 0 → ⊥) → Taken (escapeOf k s) (length s) c
-code-taken k s c = go (escapeOf k s) (escape-in k s) (escape-coded k s)
-  where
-    go : (e : Escaped) → EscapeIn (length s) e → EscapeCoded e → c ≡ escapeCode e → (c ≡ 0 → ⊥) → Taken e (length s) c
-    go (value u n) h g e z =
-        let len : codedLen c ≡ n = ap codedLen e ∙ code-len n u (g .1) in
-        let val : codedValue c ≡ u = ap codedValue e ∙ code-value n u (g .1) in
-        record { is = rw (len, val); some = rw len (h .0); within = rw len (h .1); shorter = rw (len, val) (h .2); valid = rw val (h .3) }
-    go (bad num p) h g e z = absurd (z e)
-
-pub code-refused : (k : Allowed) (s : List ℕ) → escapeCode (escapeOf k s) ≡ 0 → (num : ℕ) × (p : Place) × (escapeOf k s ≡ bad num p)
-code-refused k s = go (escapeOf k s) (escape-coded k s)
-  where
-    go : (e : Escaped) → EscapeCoded e → escapeCode e ≡ 0 → (num : ℕ) × (p : Place) × (e ≡ bad num p)
-    go (value u n) g e = absurd (code-some n u (g .0) e)
-    go (bad num p) g e = (num, p, refl)

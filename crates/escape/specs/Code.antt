@@ -1,4 +1,4 @@
--- A piece of a body as one number, which a loop takes apart without a case.
+-- A piece of a body as one number: a loop gets it in one go, and 0 where there is none.
 -- Assumes nothing.
 use Prim.Native.Nat.{ℕ, _+_, _-_, _*_, _/_, _%_}
 use mathlib.Core.Bool.{cond}

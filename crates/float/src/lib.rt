@@ -134,7 +134,7 @@ fn after_integer(text: &[u8], i: usize) -> Parsed
 }
 
 // The float literal that a text is, or why it is none.
-pub fn parse_lit(text: &[u8]) -> Parsed
+fn parse_lit(text: &[u8]) -> Parsed
     ensures { λ r. ⌜ parsedOf r ≡ floatRead (now (text .entry)) ⌝ }
 {
     let first = scan::get(text, 0);

@@ -108,7 +108,7 @@ fn parse_impl(text: &[u8]) -> Parsed
 }
 
 // The integer literal that a text is, or why it is none.
-pub fn parse_lit(text: &[u8]) -> Parsed
+fn parse_lit(text: &[u8]) -> Parsed
     ensures { λ r. ⌜ parsedOf r ≡ integerRead (now (text .entry)) ⌝ }
 {
     let first = scan::get(text, 0);

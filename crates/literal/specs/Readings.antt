@@ -93,7 +93,7 @@ entryBy b s =
     (cond (eqb b 99) 8
     9)))))
 
--- the entry from 1 to 8 that answers a text as entry 0 does; 9 where none is known, which is 3. No bytes are 1 by each of them
+-- the entry from 1 to 8 that answers a text as entry 0 does; 9 where nothing is known, which is 3. No bytes are 1, as entry 2 has it
 unfoldable pub entryFor : List ℕ → ℕ
 entryFor [] = 2
 entryFor (b ∷ s) = entryBy b (b ∷ s)

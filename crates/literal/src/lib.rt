@@ -96,7 +96,7 @@ fn b_entry(text: &[u8]) -> u64
     }
 }
 
-// The entry that reads a text, by its first byte; 9 where none does. No bytes are refused by each as by entry 2.
+// The entry that reads a text, by its first byte; 9 where none does. No bytes are refused as by entry 2.
 fn entry_for(text: &[u8]) -> u64
     ensures { λ r. ⌜ r ≡ entryFor (now (text .entry)) ⌝ }
 {
@@ -144,7 +144,7 @@ fn kind_of(entry: u64) -> Kind
     }
 }
 
-// The reading of a checked text. Each kind's parser has one call here, so that it becomes part of this function.
+// The reading of a checked text. Each kind's parser is called at this one place.
 fn entry(code: u64, text: &[u8]) -> Reading
     requires { ⌜ (code ≤ 8) × (length (now text) ≤ 65536) ⌝ }
     ensures { λ r. ⌜ outcomeOf r ≡ entryRead code (now (text .entry)) ⌝ }

@@ -5,7 +5,7 @@ ghost use mathlib.Core.Bool.{cond};
 ghost use Prim.Native.Nat.{_+_, _≤_, _<_};
 ghost use lib.ListN.{length, drop};
 ghost use Rattle.scan.specs.Run.{run, outs};
-ghost use Rattle.parse.specs.Class.{classOf, within, Classes};
+ghost use Rattle.parse.specs.Class.{classOf, Classes};
 ghost use Rattle.parse.specs.Sets.{digit, suffixRest, blank, decDigit, inSet, inClass, hexDigitOf, startsE};
 ghost use Rattle.parse.specs.Suffix.{suffixFault, suffixStart, faultOf};
 
@@ -291,7 +291,7 @@ fn middle_class(b: u8) -> u8
     if b == b'_' { 16 } else { 19 }
 }
 
-// The class of one byte, by comparisons. A scan of many bytes looks them up in the table.
+// The class of one byte, by comparisons. A scan that goes beyond 16 bytes looks them up in the table.
 pub fn class_of(b: u8) -> u8
     ensures { λ r. ⌜ r ≡ classOf b ⌝ }
 {
@@ -444,22 +444,8 @@ fn digit_marks(s: &[u8], base: u8) -> u8
     n
 }
 
-fn digits_end(s: &[u8], from: usize, base: u8) -> usize
-    requires { ⌜ (from ≤ length (now s)) × (base ≤ 16) ⌝ }
-    ensures { λ r. ⌜ r ≡ from + run (digit base) (drop from (now (s .entry))) ⌝ }
-{
-    let mut i = from;
-    while i < s.len() {
-        if !is_digit_or_underscore(s[i], base) {
-            return i;
-        }
-        i += 1;
-    }
-    i
-}
-
-// How many digits below a base and `_` stand at the front: by blocks while there are 64 bytes, then byte by byte.
-pub fn end_digits(s: &[u8], base: u8) -> usize
+// How many digits below a base and `_` stand at the front: by blocks while there are 64 bytes, then by the table.
+fn digits_len(s: &[u8], base: u8) -> usize
     requires { ⌜ base ≤ 16 ⌝ }
     ensures { λ r. ⌜ r ≡ run (digit base) (now (s .entry)) ⌝ }
 {
@@ -467,11 +453,29 @@ pub fn end_digits(s: &[u8], base: u8) -> usize
     while 64 <= s.len() - i {
         let e = i + 64;
         if digit_marks(&s[i..e], base) != 0 {
-            return digits_end(s, i, base);
+            return i + run_len(&s[i..], ClassSet::Digits(base));
         }
         i = e;
     }
-    digits_end(s, i, base)
+    i + run_len(&s[i..], ClassSet::Digits(base))
+}
+
+// How many digits below a base and `_` stand at the front. A short run pays neither for a block nor for a copy of the table.
+pub fn end_digits(s: &[u8], base: u8) -> usize
+    requires { ⌜ base ≤ 16 ⌝ }
+    ensures { λ r. ⌜ r ≡ run (digit base) (now (s .entry)) ⌝ }
+{
+    let mut i = 0;
+    while i < s.len() {
+        if i == 16 {
+            return i + digits_len(&s[i..], base);
+        }
+        if !is_digit_or_underscore(s[i], base) {
+            return i;
+        }
+        i += 1;
+    }
+    i
 }
 
 // A decimal digit or `_`, by comparisons: a block with these has no branch and no table.
@@ -609,15 +613,14 @@ fn is_suffix_rest(b: u8) -> bool
     is_decimal(b)
 }
 
-// A part of the run: at most 16 bytes, each by comparisons.
-fn few(s: &[u8]) -> usize
-    ensures { λ r. ⌜ (r ≤ length (now (s .entry))) × (r + run suffixRest (drop r (now (s .entry))) ≡ run suffixRest (now (s .entry))) ⌝ }
-    ensures { λ r. ⌜ ((r < 16) → (r ≡ run suffixRest (now (s .entry)))) ⌝ }
+// How many bytes at the front may follow in a suffix. A long run is looked up in the table.
+fn rest_len(s: &[u8]) -> usize
+    ensures { λ r. ⌜ r ≡ run suffixRest (now (s .entry)) ⌝ }
 {
     let mut i = 0;
     while i < s.len() {
         if i == 16 {
-            return i;
+            return i + run_len(&s[i..], ClassSet::SuffixRest);
         }
         if !is_suffix_rest(s[i]) {
             return i;
@@ -625,17 +628,6 @@ fn few(s: &[u8]) -> usize
         i += 1;
     }
     i
-}
-
-// How many bytes at the front may follow in a suffix. A short run pays for no copy of the table.
-fn rest_len(s: &[u8]) -> usize
-    ensures { λ r. ⌜ r ≡ run suffixRest (now (s .entry)) ⌝ }
-{
-    let i = few(s);
-    if i < 16 {
-        return i;
-    }
-    i + run_len(&s[i..], ClassSet::SuffixRest)
 }
 
 pub fn check_suffix(s: &[u8]) -> Suffix

@@ -324,6 +324,10 @@ pub fn body_len(s: &[u8], k: Allowed, style: Style) -> usize
         let c = body::code_at(s, i, end, k);
         if c != 0 {
             n += value_len(escape::code_value(c), style);
+            if body::is_x(s, i) {
+                i += 4;
+                continue;
+            }
             i += escape::code_len(c);
             continue;
         }
@@ -348,6 +352,10 @@ pub fn put_body(out: &mut [u8], s: &[u8], k: Allowed, style: Style) -> usize
         let c = body::code_at(s, i, end, k);
         if c != 0 {
             at += put_value(&mut out[at..], escape::code_value(c), style);
+            if body::is_x(s, i) {
+                i += 4;
+                continue;
+            }
             i += escape::code_len(c);
             continue;
         }

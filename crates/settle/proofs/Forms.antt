@@ -35,7 +35,7 @@ use Rattle.string_form.proofs.Bare.{read-length, opening-short}
 use Rattle.literal.specs.Readings.{readAt}
 use Rattle.settle.proofs.Readings.{short, utf8, start, stringIn, string-read}
 use Rattle.settle.specs.Worths.{worthOf}
-use Rattle.settle.specs.Settled.{Settle, formed, withheld, measured, measureOf, measureAt, settleAt, formBy, formAt, bufferAt, BareForm, len, bad, bareLen, bareBy, bareFormBy, kindIn, suffixIn, Roomy, Fits, fitsFor, roomyBy}
+use Rattle.settle.specs.Settled.{Settle, formed, withheld, measured, measureOf, measureAt, settleAt, formBy, formAt, bufferAt, BareForm, len, bad, bareLen, bareBy, bareFormBy, kindIn, suffixIn, Roomy, Fits, boundFits, surelyFits}
 
 -- a length is no refusal, and a form none
 pub no-len {ℓ} : {A : Type ℓ} {n m : ℕ} {p : Place} → bad m p ≡ len n → A
@@ -179,8 +179,8 @@ byte-length b x = rw (byte-style 39 b, length-append) (omega arith)
 
 -- ---- strings, whose forms have at most four bytes for each of the value's, quotes and a letter
 
-fits-sum : (n m have : ℕ) → fitsFor n m have ≡ true → (4 * n + 3 + m ≤ 65536) × (4 * n + 3 + m ≤ have)
-unfolding fitsFor
+fits-sum : (n m have : ℕ) → boundFits n m have ≡ true → (4 * n + 3 + m ≤ 65536) × (4 * n + 3 + m ≤ have)
+unfolding boundFits
 fits-sum n m have e =
     let t = and-eq-true-iff (leb (4 * n + 3 + m) 65536) (leb (4 * n + 3 + m) have) .0 e in
     (leb-true _ _ (t .0), leb-true _ _ (t .1))
@@ -192,7 +192,7 @@ module _ (s : List ℕ) (have : ℕ) where
   string-form Bytes lit = (refl, sym (plain-bare (worth.byte-string _) _ refl))
   string-form C lit = (refl, sym (plain-bare (worth.c-string _) _ refl))
 
-  string-fits : (k : Kind) (lit : StringLit) → let o = stringIn k lit in o ≡ readAt 0 s → roomyBy (length s) o have ≡ true → Ready s o have
+  string-fits : (k : Kind) (lit : StringLit) → let o = stringIn k lit in o ≡ readAt 0 s → surelyFits (length s) o have ≡ true → Ready s o have
   string-fits k lit is e =
       let o = stringIn k lit in
       let v = stringValue k s in
@@ -210,17 +210,17 @@ module _ (s : List ℕ) (have : ℕ) where
       ) in
       formed-fits s o (measure-formed s o (f .1) (omega (arith, m .0))) (omega (arith, m .1))
 
-  -- THE LAW: a reading that is roomy has a form that fits, so that neither 47 nor 48 comes
-  pub roomy-fits : (found : Reading) → let o = outcomeOf found in o ≡ readAt 0 s → roomyBy (length s) o have ≡ true → Ready s o have
-  roomy-fits (reading.String lit) is e = string-fits Text lit is e
-  roomy-fits (reading.ByteString lit) is e = string-fits Bytes lit is e
-  roomy-fits (reading.CString lit) is e = string-fits C lit is e
-  roomy-fits (reading.Refused k p) is e = clash e refl
-  roomy-fits (reading.Bool lit) is e = clash e refl
-  roomy-fits (reading.Integer lit) is e = clash e refl
-  roomy-fits (reading.Float lit) is e = clash e refl
-  roomy-fits (reading.Char lit) is e = clash e refl
-  roomy-fits (reading.Byte lit) is e = clash e refl
+  -- THE LAW: a string whose bound fits has a form that fits, so that neither 47 nor 48 comes
+  pub surely-ready : (found : Reading) → let o = outcomeOf found in o ≡ readAt 0 s → surelyFits (length s) o have ≡ true → Ready s o have
+  surely-ready (reading.String lit) is e = string-fits Text lit is e
+  surely-ready (reading.ByteString lit) is e = string-fits Bytes lit is e
+  surely-ready (reading.CString lit) is e = string-fits C lit is e
+  surely-ready (reading.Refused k p) is e = clash e refl
+  surely-ready (reading.Bool lit) is e = clash e refl
+  surely-ready (reading.Integer lit) is e = clash e refl
+  surely-ready (reading.Float lit) is e = clash e refl
+  surely-ready (reading.Char lit) is e = clash e refl
+  surely-ready (reading.Byte lit) is e = clash e refl
 
 -- ---- integers and floats, which may have none
 

@@ -112,14 +112,14 @@ pub record Fits (s : List ℕ) (o : Outcome) (have : ℕ) : Type 0 where
   pub room : length (formBy s o) ≤ have
 
 -- a value of n bytes, each at most four in a form, with quotes and letter, and a suffix of m bytes fit into a form and into `have` bytes
-unfoldable pub fitsFor : ℕ → ℕ → ℕ → Bool
-fitsFor n m have = leb (4 * n + 3 + m) 65536 && leb (4 * n + 3 + m) have
+unfoldable pub boundFits : ℕ → ℕ → ℕ → Bool
+boundFits n m have = leb (4 * n + 3 + m) 65536 && leb (4 * n + 3 + m) have
 
 -- so do those of a reading of a text of `size` bytes: only strings are judged so
-abbrev pub roomyBy : ℕ → Outcome → ℕ → Bool
-roomyBy size (accepted k e (decoded r n)) have = fitsFor n (size - e) have
-roomyBy size (accepted k e (truth b)) have = false
-roomyBy size (accepted k e (digits b i j)) have = false
-roomyBy size (accepted k e (ends i f j)) have = false
-roomyBy size (accepted k e (value v)) have = false
-roomyBy size (refused n p) have = false
+abbrev pub surelyFits : ℕ → Outcome → ℕ → Bool
+surelyFits size (accepted k e (decoded r n)) have = boundFits n (size - e) have
+surelyFits size (accepted k e (truth b)) have = false
+surelyFits size (accepted k e (digits b i j)) have = false
+surelyFits size (accepted k e (ends i f j)) have = false
+surelyFits size (accepted k e (value v)) have = false
+surelyFits size (refused n p) have = false

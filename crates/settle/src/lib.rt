@@ -25,7 +25,7 @@ ghost use Rattle.form.specs.Form.{bareForm};
 ghost use Rattle.integer.specs.Value.{within, number};
 ghost use Rattle.scaling.specs.Scaled.{part};
 ghost use Rattle.literal.specs.Readings.{readAt};
-ghost use Rattle.settle.specs.Settled.{settledOf, measureOf, measureAt, settleAt, bufferAt, bareOf, bareBy, bareFormBy, formBy, kindIn, suffixIn, Roomy, Fits, fitsFor, roomyBy};
+ghost use Rattle.settle.specs.Settled.{settledOf, measureOf, measureAt, settleAt, bufferAt, bareOf, bareBy, bareFormBy, formBy, kindIn, suffixIn, Roomy, Fits, boundFits, surelyFits};
 
 // A form's kind and length, or why there is none.
 pub enum Settled {
@@ -230,8 +230,8 @@ pub fn measure(text: &[u8]) -> Settled
 }
 
 // Whether a value of so many bytes, each at most four in a form, and a suffix behind it fit for sure.
-fn fits(value_len: usize, rest: usize, have: usize) -> bool
-    ensures { λ r. ⌜ r ≡ fitsFor «value_len» rest have ⌝ }
+fn bound_fits(value_len: usize, rest: usize, have: usize) -> bool
+    ensures { λ r. ⌜ r ≡ boundFits «value_len» rest have ⌝ }
 {
     if 65536 < value_len {
         return false;
@@ -247,14 +247,14 @@ fn fits(value_len: usize, rest: usize, have: usize) -> bool
 }
 
 // Whether a string's form fits for sure: then it need not be measured before it is written.
-fn is_roomy(text: &[u8], found: Reading, have: usize) -> bool
+fn surely_fits(text: &[u8], found: Reading, have: usize) -> bool
     requires { ⌜ outcomeOf found ≡ readAt 0 (now text) ⌝ }
-    ensures { λ r. ⌜ r ≡ roomyBy (length (now (text .entry))) (outcomeOf found) have ⌝ }
+    ensures { λ r. ⌜ r ≡ surelyFits (length (now (text .entry))) (outcomeOf found) have ⌝ }
 {
     match found {
-        Reading::String(lit) => fits(lit.value_len, text.len() - lit.start_suffix, have),
-        Reading::ByteString(lit) => fits(lit.value_len, text.len() - lit.start_suffix, have),
-        Reading::CString(lit) => fits(lit.value_len, text.len() - lit.start_suffix, have),
+        Reading::String(lit) => bound_fits(lit.value_len, text.len() - lit.start_suffix, have),
+        Reading::ByteString(lit) => bound_fits(lit.value_len, text.len() - lit.start_suffix, have),
+        Reading::CString(lit) => bound_fits(lit.value_len, text.len() - lit.start_suffix, have),
         _ => false,
     }
 }
@@ -267,7 +267,7 @@ pub fn settle(text: &[u8], out: &mut [u8]) -> Settled
     ensures { λ r. ⌜ now (text .exit) ≡ now (text .entry) ⌝ }
 {
     let found = literal::read(0, text);
-    if !is_roomy(text, found, out.len()) {
+    if !surely_fits(text, found, out.len()) {
         let measure = measure_of(text, found);
         let Settled::Formed(_, n) = measure else {
             return measure;

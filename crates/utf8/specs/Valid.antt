@@ -20,7 +20,7 @@ unfoldable pub isUtf8 : List ℕ → Bool
 unfolding charsWithin
 isUtf8 text = charsWithin (length text) text
 
--- the larger of two numbers, and the highest number of a text and m: a text with none above 127 needs no second look
+-- the larger of two numbers, and the highest number of a list and m: where it is below 128, the list is ASCII
 abbrev pub largerOf : ℕ → ℕ → ℕ
 largerOf a b = cond (ltb a b) b a
 

@@ -16,7 +16,7 @@ use Rattle.body.proofs.Steps as steps
 use Rattle.body.proofs.Within.{inside, step-in}
 use Rattle.body.proofs.Bodies as bodies
 use Rattle.body.proofs.Runs as runs
-use Rattle.body.proofs.Codes.{code-step, code-stops}
+use Rattle.body.proofs.Codes.{code-step, code-x, code-stops}
 use Rattle.body.proofs.measure.Statement.{statement}
 use Rattle.body.proofs.measure.Tie as tie
 
@@ -55,7 +55,17 @@ room : (c : tie.Then2 Inv-loop μ-loop)
     → (0 < size c) × (turn c .loop .i + size c ≤ length (text (turn c))) × (length (bytesOf (value c)) ≤ size c) × Valid (value c)
 room c = bodies.bounds _ 1 (step-in _) (turn c .loop .inv .1) _ _ (stepped c)
 
-counted : (c : tie.After-value-len Inv-loop μ-loop) → c .value-len .result ≡ length (bytesOf (value (c .before .before)))
+-- `\x`
+four : (c : tie.Then3 Inv-loop μ-loop) → let t = c .before .before in (size t ≡ 4) × (length (bytesOf (value t)) ≡ 1)
+four c =
+    let t = c .before .before in
+    code-x _ (text (turn t)) _ _ (t .before .code-at .ensures) (t .if2 .taken) (sym (c .before .is-x .ensures) ∙ c .if3 .taken)
+
+-- another
+abbrev other : tie.After-value-len Inv-loop μ-loop → tie.Then2 Inv-loop μ-loop
+other c = c .before .before .before .before
+
+counted : (c : tie.After-value-len Inv-loop μ-loop) → c .value-len .result ≡ length (bytesOf (value (other c)))
 counted c = c .value-len .ensures ∙ ap (λ (u : Unescaped). length (bytesOf u)) (c .before .code-value .ensures)
 
 -- ---- a run
@@ -106,15 +116,36 @@ code-at-requires c κs =
     let a = c .before .before in
     (a .loop .inv .1 .within, (entry a .pre, rw (a .before .before .last-len .ensures)))
 
+is-x-requires : tie.Need-is-x-requires Inv-loop μ-loop
+is-x-requires c κs = turn c .loop .inv .1 .within
+
+add-n : tie.Need-add-n Inv-loop μ-loop
+add-n c = let i = turn (c .before .before) .loop .inv in omega (arith, i .2, i .1 .short, i .1 .within, entry (turn (c .before .before)) .good)
+
+add-i : tie.Need-add-i Inv-loop μ-loop
+add-i c = let t = c .before .before in omega (arith, room t .1, four c .0, entry (turn t) .good)
+
+loop-less : tie.Need-loop-less Inv-loop μ-loop
+loop-less c = omega (arith, room (c .before .before) .1, four c .0)
+
+loop-again : tie.Need-loop-again Inv-loop μ-loop
+loop-again c =
+    let t = c .before .before in
+    let i = turn t .loop .inv in (
+      i .0 ++ bytesOf (value t),
+      rw (four c .0) at (bodies.more _ 1 (step-in _) (i .1) _ _ (stepped t)),
+      rw length-append (omega (arith, four c .1, i .2)),
+    )
+
 code-value-requires : tie.Need-code-value-requires Inv-loop μ-loop
 code-value-requires c κs = search needs
 
 value-len-requires : tie.Need-value-len-requires Inv-loop μ-loop
 value-len-requires c κs = search needs
 
-add-n : tie.Need-add-n Inv-loop μ-loop
-add-n c =
-    let t = c .before .before in
+add-n-2 : tie.Need-add-n-2 Inv-loop μ-loop
+add-n-2 c =
+    let t = other c in
     let r = room t in
     let i = turn t .loop .inv in
     omega (arith, r .1, r .2, counted c, i .2, i .1 .short, entry (turn t) .good)
@@ -122,15 +153,15 @@ add-n c =
 code-len-requires : tie.Need-code-len-requires Inv-loop μ-loop
 code-len-requires c κs = search needs
 
-add-i : tie.Need-add-i Inv-loop μ-loop
-add-i c = let t = c .before .before .before in omega (arith, room t .1, c .code-len .ensures, entry (turn t) .good)
+add-i-2 : tie.Need-add-i-2 Inv-loop μ-loop
+add-i-2 c = let t = other (c .before) in omega (arith, room t .1, c .code-len .ensures, entry (turn t) .good)
 
-loop-less : tie.Need-loop-less Inv-loop μ-loop
-loop-less c = let r = room (c .before .before .before) in omega (arith, r .0, r .1, c .code-len .ensures)
+loop-less-2 : tie.Need-loop-less-2 Inv-loop μ-loop
+loop-less-2 c = let r = room (other (c .before)) in omega (arith, r .0, r .1, c .code-len .ensures)
 
-loop-again : tie.Need-loop-again Inv-loop μ-loop
-loop-again c =
-    let t = c .before .before .before in
+loop-again-2 : tie.Need-loop-again-2 Inv-loop μ-loop
+loop-again-2 c =
+    let t = other (c .before) in
     let i = turn t .loop .inv in (
       i .0 ++ bytesOf (value t),
       rw (c .code-len .ensures) (bodies.more _ 1 (step-in _) (i .1) _ _ (stepped t)),
@@ -144,7 +175,7 @@ ending-at-requires : tie.Need-ending-at-requires Inv-loop μ-loop
 ending-at-requires c κs =
     let b = c .before in (
       run-from b .before .before .last-len .ensures,
-      code-stops _ _ (sym (b .before .before .code-at .ensures) ∙ b .before .if2 .left) (runs.behind-run _ _ _ _ (sym (c .if3 .taken) ∙ b .plain-end .ensures)),
+      code-stops _ _ (sym (b .before .before .code-at .ensures) ∙ b .before .if2 .left) (runs.behind-run _ _ _ _ (sym (c .if4 .taken) ∙ b .plain-end .ensures)),
     )
 
 returns-2 : tie.Need-returns-2 Inv-loop μ-loop
@@ -155,18 +186,18 @@ returns-2 c =
 sub-n : tie.Need-sub-n Inv-loop μ-loop
 sub-n c = run-counted (c .before) .0
 
-add-n-2 : tie.Need-add-n-2 Inv-loop μ-loop
-add-n-2 c =
+add-n-3 : tie.Need-add-n-3 Inv-loop μ-loop
+add-n-3 c =
     let b = c .before in
     let r = run-counted b in
     let i = run-from b .loop .inv in
     omega (arith, r .0, r .1, i .2, i .1 .short, entry (run-from b) .good)
 
-loop-less-2 : tie.Need-loop-less-2 Inv-loop μ-loop
-loop-less-2 c = let r = run-counted (c .before) in omega (arith, r .0, r .1, c .if3 .left)
+loop-less-3 : tie.Need-loop-less-3 Inv-loop μ-loop
+loop-less-3 c = let r = run-counted (c .before) in omega (arith, r .0, r .1, c .if4 .left)
 
-loop-again-2 : tie.Need-loop-again-2 Inv-loop μ-loop
-loop-again-2 c =
+loop-again-3 : tie.Need-loop-again-3 Inv-loop μ-loop
+loop-again-3 c =
     let b = c .before in
     (so-far b, ran b, omega (arith, run-counted b .2, run-from b .loop .inv .2))
 
@@ -183,17 +214,22 @@ measure-spec =
     byte-at-requires
     returns
     code-at-requires
-    code-value-requires
-    value-len-requires
+    is-x-requires
     add-n
-    code-len-requires
     add-i
     loop-less
     loop-again
+    code-value-requires
+    value-len-requires
+    add-n-2
+    code-len-requires
+    add-i-2
+    loop-less-2
+    loop-again-2
     plain-end-requires
     ending-at-requires
     returns-2
     sub-n
-    add-n-2
-    loop-less-2
-    loop-again-2)
+    add-n-3
+    loop-less-3
+    loop-again-3)

@@ -8,10 +8,6 @@ use Rattle.literal.proofs.Dispatch.{byEntry, chosen-read}
 use borrow.Author.Needs.{needs}
 use Rattle.literal.proofs.entry.Statement.{statement}
 use Rattle.literal.proofs.entry.Tie as tie
-use Rattle.character.proofs.parse.Reads as parse-reads′
-use Rattle.float.proofs.parse.Reads as parse-reads′′
-use Rattle.integer.proofs.parse.Reads as parse-reads′′′
-use Rattle.string.proofs.parse.Reads as parse-reads′′′′
 
 chosen-requires : tie.Need-chosen-requires
 chosen-requires c κs = search needs

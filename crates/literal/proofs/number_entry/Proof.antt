@@ -1,6 +1,6 @@
 -- `literal::number_entry` meets its contract.
 -- Assumes nothing.
-use mathlib.Core.Path.{_≡_, sym, _∙_}
+use mathlib.Core.Path.{sym, _∙_}
 use Rattle.literal.specs.Readings.{numberEntry}
 use borrow.Author.Needs.{needs}
 use Rattle.literal.proofs.number_entry.Statement.{statement}

@@ -3,10 +3,12 @@
 use Prim.Native.Nat.{_≤_, _+_, _-_}
 use mathlib.Core.Path.{_≡_, sym, _∙_}
 use native.Mathlib.Omega.{arith}
+use borrow.Author.Tests.{not-true, not-false}
 use lib.ListN.{length, drop}
 use borrow.Author.Needs.{needs}
 use Rattle.scan.specs.Run.{run}
-use Rattle.scan.proofs.Runs.{run-part}
+use Rattle.scan.proofs.Parts.{part-to-end}
+use Rattle.scan.proofs.Runs.{run-more, run-stop, run-end, run-le}
 use Rattle.parse.specs.Sets.{digit}
 use Rattle.parse.proofs.end_digits.Statement.{statement}
 use Rattle.parse.proofs.end_digits.Tie as tie
@@ -21,43 +23,48 @@ abbrev μ-loop : tie.MeasureT-loop
 loop-holds : tie.Need-loop-holds Inv-loop μ-loop
 loop-holds c = search needs
 
-sub-loop : tie.Need-sub-loop Inv-loop μ-loop
-sub-loop c = search needs
+sub-digits-len : tie.Need-sub-digits-len Inv-loop μ-loop
+sub-digits-len c = search needs
 
-add-e : tie.Need-add-e Inv-loop μ-loop
-add-e c = search needs
+part-digits-len-start : tie.Need-part-digits-len-start Inv-loop μ-loop
+part-digits-len-start c = search needs
 
-sub-digit-marks : tie.Need-sub-digit-marks Inv-loop μ-loop
-sub-digit-marks c = search needs
+part-digits-len-end : tie.Need-part-digits-len-end Inv-loop μ-loop
+part-digits-len-end c = search needs
 
-part-digit-marks-start : tie.Need-part-digit-marks-start Inv-loop μ-loop
-part-digit-marks-start c = search needs
-
-part-digit-marks-end : tie.Need-part-digit-marks-end Inv-loop μ-loop
-part-digit-marks-end c = search needs
-
-digit-marks-requires : tie.Need-digit-marks-requires Inv-loop μ-loop
-digit-marks-requires c κs = search needs
-
-digits-end-requires : tie.Need-digits-end-requires Inv-loop μ-loop
-digits-end-requires c κs = search needs
+digits-len-requires : tie.Need-digits-len-requires Inv-loop μ-loop
+digits-len-requires c κs = search needs
 
 returns : tie.Need-returns Inv-loop μ-loop
-returns c = c .digits-end .ensures ∙ c .before .before .before .before .before .loop .inv .1
+returns c = rw (c .digits-len .ensures, part-to-end) (c .before .before .before .before .loop .inv .1)
+
+add-result : tie.Need-add-result Inv-loop μ-loop
+add-result c = let a = c .before .before .before .before .before .before .args in omega (arith, returns c, run-le (digit (a .base)) (a .s .now))
+
+shared-slice-read-is-digit-or-underscore : tie.Need-shared-slice-read-is-digit-or-underscore Inv-loop μ-loop
+shared-slice-read-is-digit-or-underscore c = search needs
+
+is-digit-or-underscore-requires : tie.Need-is-digit-or-underscore-requires Inv-loop μ-loop
+is-digit-or-underscore-requires c κs = search needs
+
+returns-2 : tie.Need-returns-2 Inv-loop μ-loop
+returns-2 c =
+    let b = c .before .before .before .before in
+    sym (run-stop _ _ _ (b .loop-test .taken) (sym (c .before .is-digit-or-underscore .ensures) ∙ not-true _ (c .if2 .taken))) ∙ b .before .loop .inv .1
+
+add-i : tie.Need-add-i Inv-loop μ-loop
+add-i c = search needs
 
 loop-less : tie.Need-loop-less Inv-loop μ-loop
 loop-less c = search needs
 
 loop-again : tie.Need-loop-again Inv-loop μ-loop
 loop-again c =
-    let b = c .before .before .before in
-    (search needs, sym (run-part _ _ _ _ (sym (c .before .digit-marks .ensures) ∙ c .if1 .left) (omega arith) (omega arith)) ∙ b .before .loop .inv .1)
+    let b = c .before .before .before .before in
+    (search needs, sym (run-more _ _ _ (b .loop-test .taken) (sym (c .before .is-digit-or-underscore .ensures) ∙ not-false _ (c .if2 .left))) ∙ b .before .loop .inv .1)
 
-digits-end-requires-2 : tie.Need-digits-end-requires-2 Inv-loop μ-loop
-digits-end-requires-2 c κs = search needs
-
-returns-2 : tie.Need-returns-2 Inv-loop μ-loop
-returns-2 c = c .digits-end2 .ensures ∙ c .before .before .loop .inv .1
+returns-3 : tie.Need-returns-3 Inv-loop μ-loop
+returns-3 c = sym (run-end _ _ _ (c .loop-test .left)) ∙ c .before .loop .inv .1
 
 pub end-digits-spec : {M : Type 1} → statement M
 end-digits-spec =
@@ -66,15 +73,16 @@ end-digits-spec =
     Inv-loop
     μ-loop
     loop-holds
-    sub-loop
-    add-e
-    sub-digit-marks
-    part-digit-marks-start
-    part-digit-marks-end
-    digit-marks-requires
-    digits-end-requires
+    sub-digits-len
+    part-digits-len-start
+    part-digits-len-end
+    digits-len-requires
+    add-result
     returns
+    shared-slice-read-is-digit-or-underscore
+    is-digit-or-underscore-requires
+    returns-2
+    add-i
     loop-less
     loop-again
-    digits-end-requires-2
-    returns-2)
+    returns-3)

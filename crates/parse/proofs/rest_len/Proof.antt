@@ -1,46 +1,88 @@
 -- `parse::rest_len` meets its contract.
 -- Assumes nothing.
+use Prim.Native.Nat.{_≤_, _+_, _-_}
+use mathlib.Core.Path.{_≡_, sym, _∙_}
 use native.Mathlib.Omega.{arith}
+use borrow.Author.Tests.{not-true, not-false}
+use lib.ListN.{length, drop}
 use borrow.Author.Needs.{needs}
+use Rattle.scan.specs.Run.{run}
 use Rattle.scan.proofs.Parts.{part-to-end}
-use Rattle.scan.proofs.Runs.{run-le}
+use Rattle.scan.proofs.Runs.{run-more, run-stop, run-end, run-le}
 use Rattle.parse.specs.Sets.{suffixRest}
 use Rattle.parse.proofs.rest_len.Statement.{statement}
 use Rattle.parse.proofs.rest_len.Tie as tie
 
-few-requires : tie.Need-few-requires
-few-requires c κs = search needs
+-- the run of the whole is what is passed and the run of the rest
+abbrev Inv-loop : tie.InvT-loop
+Inv-loop s i₀ i = (i ≤ length s) × (i + run suffixRest (drop i s) ≡ run suffixRest s)
 
-returns : tie.Need-returns
-returns c = c .before .few .ensures .1 (c .if1 .taken)
+abbrev μ-loop : tie.MeasureT-loop
+μ-loop s i₀ i = length s - i
 
-sub-run-len : tie.Need-sub-run-len
+loop-holds : tie.Need-loop-holds Inv-loop μ-loop
+loop-holds c = search needs
+
+sub-run-len : tie.Need-sub-run-len Inv-loop μ-loop
 sub-run-len c = search needs
 
-part-run-len-start : tie.Need-part-run-len-start
+part-run-len-start : tie.Need-part-run-len-start Inv-loop μ-loop
 part-run-len-start c = search needs
 
-part-run-len-end : tie.Need-part-run-len-end
+part-run-len-end : tie.Need-part-run-len-end Inv-loop μ-loop
 part-run-len-end c = search needs
 
-run-len-requires : tie.Need-run-len-requires
+run-len-requires : tie.Need-run-len-requires Inv-loop μ-loop
 run-len-requires c κs = search needs
 
-returns-2 : tie.Need-returns-2
-returns-2 c = rw (c .run-len .ensures, part-to-end) (c .before .before .before .few .ensures .0 .1)
+returns : tie.Need-returns Inv-loop μ-loop
+returns c = rw (c .run-len .ensures, part-to-end) (c .before .before .before .before .loop .inv .1)
 
-add-result : tie.Need-add-result
-add-result c = omega (arith, returns-2 c, run-le suffixRest (c .before .before .before .before .before .args .s .now))
+add-result : tie.Need-add-result Inv-loop μ-loop
+add-result c = omega (arith, returns c, run-le suffixRest (c .before .before .before .before .before .before .args .s .now))
+
+shared-slice-read-is-suffix-rest : tie.Need-shared-slice-read-is-suffix-rest Inv-loop μ-loop
+shared-slice-read-is-suffix-rest c = search needs
+
+is-suffix-rest-requires : tie.Need-is-suffix-rest-requires Inv-loop μ-loop
+is-suffix-rest-requires c κs = search needs
+
+returns-2 : tie.Need-returns-2 Inv-loop μ-loop
+returns-2 c =
+    let b = c .before .before .before .before in
+    sym (run-stop _ _ _ (b .loop-test .taken) (sym (c .before .is-suffix-rest .ensures) ∙ not-true _ (c .if2 .taken))) ∙ b .before .loop .inv .1
+
+add-i : tie.Need-add-i Inv-loop μ-loop
+add-i c = search needs
+
+loop-less : tie.Need-loop-less Inv-loop μ-loop
+loop-less c = search needs
+
+loop-again : tie.Need-loop-again Inv-loop μ-loop
+loop-again c =
+    let b = c .before .before .before .before in
+    (search needs, sym (run-more _ _ _ (b .loop-test .taken) (sym (c .before .is-suffix-rest .ensures) ∙ not-false _ (c .if2 .left))) ∙ b .before .loop .inv .1)
+
+returns-3 : tie.Need-returns-3 Inv-loop μ-loop
+returns-3 c = sym (run-end _ _ _ (c .loop-test .left)) ∙ c .before .loop .inv .1
 
 pub rest-len-spec : {M : Type 1} → statement M
 rest-len-spec =
     tie.close
     (tie.spec
-    few-requires
-    returns
+    Inv-loop
+    μ-loop
+    loop-holds
     sub-run-len
     part-run-len-start
     part-run-len-end
     run-len-requires
     add-result
-    returns-2)
+    returns
+    shared-slice-read-is-suffix-rest
+    is-suffix-rest-requires
+    returns-2
+    add-i
+    loop-less
+    loop-again
+    returns-3)

@@ -13,7 +13,7 @@ use Rattle.escape.specs.declared.Allowed.{Allowed}
 use Rattle.escape.specs.declared.Unescaped.{Unescaped}
 use Rattle.body.specs.Step.{piece, stepOf, plainByte}
 use Rattle.body.proofs.Bodies as bodies
-use Rattle.body.proofs.Codes.{code-step, code-stops}
+use Rattle.body.proofs.Codes.{code-step, code-x, code-stops}
 use Rattle.body.proofs.Runs as runs
 use Rattle.body.proofs.Within.{step-in}
 use Rattle.quoting.specs.Styled.{styledForms}
@@ -76,10 +76,21 @@ room : (c : tie.Then1 Inv-loop μ-loop) →
     (0 < size c) × (l .loop .i + size c ≤ length (text l)) × (length (bytesOf (value c)) ≤ size c) × Valid (value c)
 room c = bodies.bounds _ 1 (step-in _) (c .before .before .loop .inv .1) _ _ (stepped c)
 
+onward : (c : tie.Then1 Inv-loop μ-loop) →
+    let l = c .before .before in
+    bodies.Passed (stepOf (kind l)) (text l) (l .loop .i + size c) (so-far l ++ bytesOf (value c))
+onward c = bodies.more _ 1 (step-in _) (c .before .before .loop .inv .1) _ _ (stepped c)
+
 measured : (c : tie.After-value-len Inv-loop μ-loop) →
     let d = c .before .before in
     c .value-len .result ≡ length (forms (d .before .before) (bytesOf (value d)))
 measured c = rw (c .before .code-value .ensures) at (c .value-len .ensures .0)
+
+-- `\x`
+four : (c : tie.Then2 Inv-loop μ-loop) → size (c .before .before .before .before) ≡ 4
+four c =
+    let d = c .before .before .before .before in
+    code-x _ (text (d .before .before)) _ _ (d .before .code-at .ensures) (d .if1 .taken) (sym (c .before .is-x .ensures) ∙ c .if2 .taken) .0
 
 -- the run where there is none
 abbrev passed : tie.After-plain-end Inv-loop μ-loop → List ℕ
@@ -121,22 +132,44 @@ value-len-requires c κs = search needs
 add-n : tie.Need-add-n Inv-loop μ-loop
 add-n c = omega (arith, short (c .before .before .before .before), c .value-len .ensures .1)
 
-code-len-requires : tie.Need-code-len-requires Inv-loop μ-loop
-code-len-requires c κs = search needs
+is-x-requires : tie.Need-is-x-requires Inv-loop μ-loop
+is-x-requires c κs = c .before .before .before .before .loop .inv .1 .within
 
 add-i : tie.Need-add-i Inv-loop μ-loop
-add-i c = let d = c .before .before .before in omega (arith, room d .1, c .code-len .ensures, short (d .before .before) .1)
+add-i c = let d = c .before .before .before .before in omega (arith, room d .1, four c, short (d .before .before) .1)
 
 loop-less : tie.Need-loop-less Inv-loop μ-loop
-loop-less c = let r = room (c .before .before .before) in omega (arith, r .0, r .1, c .code-len .ensures)
+loop-less c = omega (arith, room (c .before .before .before .before) .1, four c)
 
 loop-again : tie.Need-loop-again Inv-loop μ-loop
 loop-again c =
-    let d = c .before .before .before in
+    let v = c .before .before in
+    let d = v .before .before in
     let l = d .before .before in (
       so-far l ++ bytesOf (value d),
-      rw (c .code-len .ensures) (bodies.more _ 1 (step-in _) (l .loop .inv .1) _ _ (stepped d)),
-      longer l _ (bytesOf (value d)) (measured (c .before)),
+      rw (four c) at (onward d),
+      longer l _ (bytesOf (value d)) (measured v),
+    )
+
+code-len-requires : tie.Need-code-len-requires Inv-loop μ-loop
+code-len-requires c κs = search needs
+
+add-i-2 : tie.Need-add-i-2 Inv-loop μ-loop
+add-i-2 c =
+    let d = c .before .before .before .before .before in
+    omega (arith, room d .1, c .code-len .ensures, short (d .before .before) .1)
+
+loop-less-2 : tie.Need-loop-less-2 Inv-loop μ-loop
+loop-less-2 c = let r = room (c .before .before .before .before .before) in omega (arith, r .0, r .1, c .code-len .ensures)
+
+loop-again-2 : tie.Need-loop-again-2 Inv-loop μ-loop
+loop-again-2 c =
+    let v = c .before .before .before in
+    let d = v .before .before in
+    let l = d .before .before in (
+      so-far l ++ bytesOf (value d),
+      rw (c .code-len .ensures) (onward d),
+      longer l _ (bytesOf (value d)) (measured v),
     )
 
 plain-end-requires : tie.Need-plain-end-requires Inv-loop μ-loop
@@ -146,7 +179,7 @@ returns : tie.Need-returns Inv-loop μ-loop
 returns c =
     let b = c .before in
     let l = b .before .before .before in
-    let stops = code-stops _ _ (sym (b .before .before .code-at .ensures) ∙ b .before .if1 .left) (runs.behind-run _ _ _ _ (sym (c .if2 .taken) ∙ b .plain-end .ensures)) in
+    let stops = code-stops _ _ (sym (b .before .before .code-at .ensures) ∙ b .before .if1 .left) (runs.behind-run _ _ _ _ (sym (c .if3 .taken) ∙ b .plain-end .ensures)) in
     (l .loop .inv .2 ∙ ap (λ (v : List ℕ). length (forms l v)) (bodies.whole _ 1 (step-in _) (l .loop .inv .1) stops), short l .0)
 
 sub-forms-len : tie.Need-sub-forms-len Inv-loop μ-loop
@@ -170,11 +203,11 @@ add-n-2 c =
     let l = b .before .before .before in
     omega (arith, short l, counted b, length-append (so-far l) (passed b), c .forms-len .ensures .1)
 
-loop-less-2 : tie.Need-loop-less-2 Inv-loop μ-loop
-loop-less-2 c = let b = c .before .before .before in omega (arith, counted b, c .before .before .if2 .left)
+loop-less-3 : tie.Need-loop-less-3 Inv-loop μ-loop
+loop-less-3 c = let b = c .before .before .before in omega (arith, counted b, c .before .before .if3 .left)
 
-loop-again-2 : tie.Need-loop-again-2 Inv-loop μ-loop
-loop-again-2 c =
+loop-again-3 : tie.Need-loop-again-3 Inv-loop μ-loop
+loop-again-3 c =
     let b = c .before .before .before in
     let l = b .before .before .before in
     (so-far l ++ passed b, ran b, longer l _ (passed b) (c .forms-len .ensures .0))
@@ -192,10 +225,14 @@ body-len-spec =
     code-value-requires
     value-len-requires
     add-n
-    code-len-requires
+    is-x-requires
     add-i
     loop-less
     loop-again
+    code-len-requires
+    add-i-2
+    loop-less-2
+    loop-again-2
     plain-end-requires
     returns
     sub-forms-len
@@ -203,5 +240,5 @@ body-len-spec =
     part-forms-len-end
     forms-len-requires
     add-n-2
-    loop-less-2
-    loop-again-2)
+    loop-less-3
+    loop-again-3)

@@ -58,7 +58,7 @@ returns c =
     (rw e at (counted b .2), omega (arith, counted b .0))
 
 shared-slice-read-form-len : tie.Need-shared-slice-read-form-len Inv-loop μ-loop
-shared-slice-read-form-len c = inside (c .before)
+shared-slice-read-form-len c = omega (arith, inside (c .before))
 
 form-len-requires : tie.Need-form-len-requires Inv-loop μ-loop
 form-len-requires c κs = search needs

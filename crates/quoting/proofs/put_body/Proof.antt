@@ -16,7 +16,7 @@ use Rattle.escape.specs.declared.Allowed.{Allowed}
 use Rattle.body.specs.Body.{Body, bodyBy}
 use Rattle.body.specs.Step.{piece, stepOf, plainByte}
 use Rattle.body.proofs.Bodies as bodies
-use Rattle.body.proofs.Codes.{code-step, code-stops}
+use Rattle.body.proofs.Codes.{code-step, code-x, code-stops}
 use Rattle.body.proofs.Runs as runs
 use Rattle.body.proofs.Within.{step-in}
 use Rattle.quoting.specs.Styled.{styledForms}
@@ -112,6 +112,15 @@ value-fits : (c : tie.After-code-value Inv-loop μ-loop)
     → length (forms (turn c) (so-far (turn c))) + length (forms (turn c) (bytes c)) ≤ length (lent (turn c))
 value-fits c = fits (turn c) (bytes c) (onward c)
 
+-- `\x`: where it is written, and how long it is
+abbrev written : tie.Then2 Inv-loop μ-loop → tie.After-put-value Inv-loop μ-loop
+written c = c .before .before .before .before
+
+four : (c : tie.Then2 Inv-loop μ-loop) → size (written c .before) ≡ 4
+four c =
+    let t = written c .before .before .before in
+    code-x _ (text (t .before .before)) _ _ (t .before .code-at .ensures) (t .if1 .taken) (sym (c .before .is-x .ensures) ∙ c .if2 .taken) .0
+
 -- ---- a run
 
 abbrev run-from : tie.After-plain-end Inv-loop μ-loop → tie.At-loop Inv-loop μ-loop
@@ -165,18 +174,35 @@ add-at c =
     let v = c .before .before .before in
     omega (arith, value-fits v, turn v .loop .inv .2 .count, c .before .before .put-value .ensures .count, entry (turn v) .good)
 
-code-len-requires : tie.Need-code-len-requires Inv-loop μ-loop
-code-len-requires c κs = search needs
+is-x-requires : tie.Need-is-x-requires Inv-loop μ-loop
+is-x-requires c κs = turn (c .before .before .before) .loop .inv .1 .within
 
 add-i : tie.Need-add-i Inv-loop μ-loop
-add-i c = let v = c .before .before .before .before in omega (arith, room v .1, c .code-len .ensures, entry (turn v) .good)
+add-i c = let v = written c .before in omega (arith, room v .1, four c, entry (turn v) .good)
 
 loop-less : tie.Need-loop-less Inv-loop μ-loop
-loop-less c = let r = room (c .before .before .before .before) in omega (arith, r .0, r .1, c .code-len .ensures)
+loop-less c = omega (arith, room (written c .before) .1, four c)
 
 loop-again : tie.Need-loop-again Inv-loop μ-loop
 loop-again c =
-    let w = c .before .before .before in
+    let v = written c .before in (
+      so-far (turn v) ++ bytes v,
+      rw (four c) at (onward v),
+      further (turn v) (bytes v) _ _ (onward v) (written c .put-value .ensures),
+    )
+
+code-len-requires : tie.Need-code-len-requires Inv-loop μ-loop
+code-len-requires c κs = search needs
+
+add-i-2 : tie.Need-add-i-2 Inv-loop μ-loop
+add-i-2 c = let v = c .before .before .before .before .before .before in omega (arith, room v .1, c .code-len .ensures, entry (turn v) .good)
+
+loop-less-2 : tie.Need-loop-less-2 Inv-loop μ-loop
+loop-less-2 c = let r = room (c .before .before .before .before .before .before) in omega (arith, r .0, r .1, c .code-len .ensures)
+
+loop-again-2 : tie.Need-loop-again-2 Inv-loop μ-loop
+loop-again-2 c =
+    let w = c .before .before .before .before .before in
     let v = w .before in (
       so-far (turn v) ++ bytes v,
       rw (c .code-len .ensures) (onward v),
@@ -193,7 +219,7 @@ returns : tie.Need-returns Inv-loop μ-loop
 returns c =
     let b = c .before in
     let i = run-from b .loop .inv in
-    let stops = code-stops _ _ (sym (b .before .before .code-at .ensures) ∙ b .before .if1 .left) (runs.behind-run _ _ _ _ (sym (c .if2 .taken) ∙ b .plain-end .ensures)) in
+    let stops = code-stops _ _ (sym (b .before .before .code-at .ensures) ∙ b .before .if1 .left) (runs.behind-run _ _ _ _ (sym (c .if3 .taken) ∙ b .plain-end .ensures)) in
     rw (sym (bodies.whole _ 1 (step-in _) (i .1) stops)) (i .2)
 
 sub-put-forms : tie.Need-sub-put-forms Inv-loop μ-loop
@@ -223,14 +249,14 @@ add-at-2 c =
     let b = w .before .before .before .before in
     omega (arith, run-fits b, run-from b .loop .inv .2 .count, w .put-forms .ensures .count, entry (run-from b) .good)
 
-loop-less-2 : tie.Need-loop-less-2 Inv-loop μ-loop
-loop-less-2 c =
+loop-less-3 : tie.Need-loop-less-3 Inv-loop μ-loop
+loop-less-3 c =
     let e = c .before .before .before .before .before in
     let r = counted (e .before) in
-    omega (arith, r .0, r .1, e .if2 .left)
+    omega (arith, r .0, r .1, e .if3 .left)
 
-loop-again-2 : tie.Need-loop-again-2 Inv-loop μ-loop
-loop-again-2 c =
+loop-again-3 : tie.Need-loop-again-3 Inv-loop μ-loop
+loop-again-3 c =
     let w = c .before .before in
     let b = w .before .before .before .before in
     (so-far (run-from b) ++ passed b, ran b, further (run-from b) (passed b) _ _ (ran b) (w .put-forms .ensures))
@@ -251,10 +277,14 @@ put-body-spec =
     code-value-requires
     put-value-requires
     add-at
-    code-len-requires
+    is-x-requires
     add-i
     loop-less
     loop-again
+    code-len-requires
+    add-i-2
+    loop-less-2
+    loop-again-2
     plain-end-requires
     same-length
     returns
@@ -266,5 +296,5 @@ put-body-spec =
     part-put-forms-end-2
     put-forms-requires
     add-at-2
-    loop-less-2
-    loop-again-2)
+    loop-less-3
+    loop-again-3)

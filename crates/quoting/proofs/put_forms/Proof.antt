@@ -154,7 +154,7 @@ part-put-form-end : tie.Need-part-put-form-end Inv-loop μ-loop
 part-put-form-end c = search needs
 
 shared-slice-read-put-form : tie.Need-shared-slice-read-put-form Inv-loop μ-loop
-shared-slice-read-put-form c = inside (c .before .before)
+shared-slice-read-put-form c = omega (arith, inside (c .before .before))
 
 put-form-requires : tie.Need-put-form-requires Inv-loop μ-loop
 put-form-requires c κs = let d = c .before .before in laws.room _ (written (d .before)) (form-fits d)

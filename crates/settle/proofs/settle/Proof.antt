@@ -7,15 +7,15 @@ use mathlib.Core.Path.{refl, sym, ap, _∙_}
 use lib.ListN.{length}
 use Rattle.err.specs.Reading.{outcomeOf}
 use Rattle.settle.specs.Settled.{settledOf}
-use Rattle.settle.proofs.Forms.{Ready, formed-fits, roomy-fits, settle-refused, settle-small, settle-written}
+use Rattle.settle.proofs.Forms.{Ready, formed-fits, surely-ready, settle-refused, settle-small, settle-written}
 use Rattle.settle.proofs.settle.Statement.{statement}
 use Rattle.settle.proofs.settle.Tie as tie
 
 read-requires : tie.Need-read-requires
 read-requires c κs = search needs
 
-is-roomy-requires : tie.Need-is-roomy-requires
-is-roomy-requires c κs = search needs
+surely-fits-requires : tie.Need-surely-fits-requires
+surely-fits-requires c κs = search needs
 
 measure-of-requires : tie.Need-measure-of-requires
 measure-of-requires c κs = search needs
@@ -47,7 +47,7 @@ fits c =
     let b = c .before in
     ⊎-elim
     (λ w. formed-fits _ _ (sym (w .1 .ensures) ∙ ap settledOf (w .3 .given .1)) (w .5 .left))
-    (λ w. roomy-fits _ _ (b .before .read .result) (b .before .read .ensures .0) (sym (b .is-roomy .ensures) ∙ not-false _ (w .left)))
+    (λ w. surely-ready _ _ (b .before .read .result) (b .before .read .ensures .0) (sym (b .surely-fits .ensures) ∙ not-false _ (w .left)))
     (c .if1 .came)
 
 put-reading-requires : tie.Need-put-reading-requires
@@ -72,7 +72,7 @@ settle-spec =
     tie.close
     (tie.spec
     read-requires
-    is-roomy-requires
+    surely-fits-requires
     measure-of-requires
     enum-known-measure
     enum-told

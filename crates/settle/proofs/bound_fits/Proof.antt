@@ -1,19 +1,19 @@
--- `settle::fits` meets its contract.
+-- `settle::bound_fits` meets its contract.
 -- Assumes nothing.
 use borrow.Author.Needs.{needs}
 use borrow.Author.Tests.{le-leb, lt-leb}
 use Prim.Native.Nat.{_+_, _*_}
 use native.Mathlib.Omega.{arith}
-use Rattle.settle.specs.Settled.{fitsFor}
-use Rattle.settle.proofs.fits.Statement.{statement}
-use Rattle.settle.proofs.fits.Tie as tie
+use Rattle.settle.specs.Settled.{boundFits}
+use Rattle.settle.proofs.bound_fits.Statement.{statement}
+use Rattle.settle.proofs.bound_fits.Tie as tie
 
 returns : tie.Need-returns
-unfolding fitsFor
+unfolding boundFits
 returns c = let a = c .before .args in rw (lt-leb (4 * a .«value-len» + 3 + a .rest) 65536 (omega arith))
 
 returns-2 : tie.Need-returns-2
-unfolding fitsFor
+unfolding boundFits
 returns-2 c = let a = c .before .before .args in rw (lt-leb (4 * a .«value-len» + 3 + a .rest) 65536 (omega arith))
 
 mul-n : tie.Need-mul-n
@@ -26,15 +26,15 @@ add-n-2 : tie.Need-add-n-2
 add-n-2 c = search needs
 
 returns-3 : tie.Need-returns-3
-unfolding fitsFor
+unfolding boundFits
 returns-3 c = rw (lt-leb _ 65536 (c .if3 .taken))
 
 returns-4 : tie.Need-returns-4
-unfolding fitsFor
+unfolding boundFits
 returns-4 c = rw (le-leb _ 65536 (c .if3 .left))
 
-pub fits-spec : {M : Type 1} → statement M
-fits-spec =
+pub bound-fits-spec : {M : Type 1} → statement M
+bound-fits-spec =
     tie.close
     (tie.spec
     returns

@@ -1,4 +1,4 @@
--- `settle::is_roomy` meets its contract.
+-- `settle::surely_fits` meets its contract.
 -- Assumes nothing.
 use borrow.Author.Needs.{needs}
 use denote.Enum.Declared.{tagOf}
@@ -11,52 +11,52 @@ use Rattle.err.specs.Reading.{outcomeOf}
 use Rattle.err.specs.declared.Reading.{Reading}
 use Rattle.err.specs.declared.Reading.the-variants as reading
 use Rattle.err.proofs.Reading.{the-type}
-use Rattle.settle.specs.Settled.{roomyBy}
+use Rattle.settle.specs.Settled.{surelyFits}
 use Rattle.settle.proofs.Readings.{start}
-use Rattle.settle.proofs.is_roomy.Statement.{statement}
-use Rattle.settle.proofs.is_roomy.Tie as tie
+use Rattle.settle.proofs.surely_fits.Statement.{statement}
+use Rattle.settle.proofs.surely_fits.Tie as tie
 
 enum-known-found : tie.Need-enum-known-found
 enum-known-found c = search needs
 
-sub-fits : tie.Need-sub-fits
-sub-fits c = start _ (sym (ap outcomeOf (c .before .before .found .given .1)) ∙ c .before .before .before .before .before .pre)
+sub-bound-fits : tie.Need-sub-bound-fits
+sub-bound-fits c = start _ (sym (ap outcomeOf (c .before .before .found .given .1)) ∙ c .before .before .before .before .before .pre)
 
-fits-requires : tie.Need-fits-requires
-fits-requires c κs = search needs
+bound-fits-requires : tie.Need-bound-fits-requires
+bound-fits-requires c κs = search needs
 
 enum-known-found-2 : tie.Need-enum-known-found-2
 enum-known-found-2 c = search needs
 
-sub-fits-2 : tie.Need-sub-fits-2
-sub-fits-2 c = start _ (sym (ap outcomeOf (c .before .before .found2 .given .1)) ∙ c .before .before .before .before .before .pre)
+sub-bound-fits-2 : tie.Need-sub-bound-fits-2
+sub-bound-fits-2 c = start _ (sym (ap outcomeOf (c .before .before .found2 .given .1)) ∙ c .before .before .before .before .before .pre)
 
-fits-requires-2 : tie.Need-fits-requires-2
-fits-requires-2 c κs = search needs
+bound-fits-requires-2 : tie.Need-bound-fits-requires-2
+bound-fits-requires-2 c κs = search needs
 
 enum-known-found-3 : tie.Need-enum-known-found-3
 enum-known-found-3 c = search needs
 
-sub-fits-3 : tie.Need-sub-fits-3
-sub-fits-3 c = start _ (sym (ap outcomeOf (c .before .before .found3 .given .1)) ∙ c .before .before .before .before .before .pre)
+sub-bound-fits-3 : tie.Need-sub-bound-fits-3
+sub-bound-fits-3 c = start _ (sym (ap outcomeOf (c .before .before .found3 .given .1)) ∙ c .before .before .before .before .before .pre)
 
-fits-requires-3 : tie.Need-fits-requires-3
-fits-requires-3 c κs = search needs
+bound-fits-requires-3 : tie.Need-bound-fits-requires-3
+bound-fits-requires-3 c κs = search needs
 
 returns : tie.Need-returns
-returns c = rw (c .before .before .before .found .given .1) (c .fits2 .ensures)
+returns c = rw (c .before .before .before .found .given .1) (c .bound-fits .ensures)
 
 returns-2 : tie.Need-returns-2
-returns-2 c = rw (c .before .before .before .found2 .given .1) (c .fits3 .ensures)
+returns-2 c = rw (c .before .before .before .found2 .given .1) (c .bound-fits2 .ensures)
 
 returns-3 : tie.Need-returns-3
-returns-3 c = rw (c .before .before .before .found3 .given .1) (c .fits4 .ensures)
+returns-3 c = rw (c .before .before .before .found3 .given .1) (c .bound-fits3 .ensures)
 
 -- the variants that are not strings, by their place among all
 abbrev others : List ℕ
 others = 0 ∷ 1 ∷ 2 ∷ 3 ∷ 4 ∷ 6 ∷ []
 
-other : (found : Reading) (size have : ℕ) → OneOf others (tagOf the-type found) → false ≡ roomyBy size (outcomeOf found) have
+other : (found : Reading) (size have : ℕ) → OneOf others (tagOf the-type found) → false ≡ surelyFits size (outcomeOf found) have
 other (reading.Refused k p) size have o = refl
 other (reading.Bool lit) size have o = refl
 other (reading.Integer lit) size have o = refl
@@ -70,19 +70,19 @@ other (reading.CString lit) size have o = absurd (miss others _ tt o)
 returns-4 : tie.Need-returns-4
 returns-4 c = let a = c .before .before .args in other (a .found) _ (a .have) (c .match .keys4)
 
-pub is-roomy-spec : {M : Type 1} → statement M
-is-roomy-spec =
+pub surely-fits-spec : {M : Type 1} → statement M
+surely-fits-spec =
     tie.close
     (tie.spec
     enum-known-found
-    sub-fits
-    fits-requires
+    sub-bound-fits
+    bound-fits-requires
     enum-known-found-2
-    sub-fits-2
-    fits-requires-2
+    sub-bound-fits-2
+    bound-fits-requires-2
     enum-known-found-3
-    sub-fits-3
-    fits-requires-3
+    sub-bound-fits-3
+    bound-fits-requires-3
     returns
     returns-2
     returns-3
