@@ -58,7 +58,11 @@ fn cut(text: &str) -> String {
 fn our_answer(call: Call, text: &[u8]) -> Answer {
     let mut out = vec![165; BUFFER];
     match call {
-        Call::Read => Answer::Reading(ours::read(text)),
+        Call::Read => {
+            let mut numbers = [0; 5];
+            ours::read(text, &mut numbers);
+            Answer::Reading(numbers)
+        }
         Call::Value => ours::value(text).map_or_else(Answer::Refused, Answer::Value),
         Call::DecodeOwned(entry) | Call::DecodeLent(entry) => written(ours::decode(entry, text, &mut out), out),
         Call::SettleTwoPass | Call::SettleCollected => written(ours::settle(text, &mut out), out),

@@ -51,7 +51,7 @@ fn run() -> Result<(), String> {
         return Err(format!("no row has `{word}` in its name"));
     }
     rows.iter().try_for_each(answers::agree)?;
-    let mut lent = Lent { ours: vec![165; answers::BUFFER], theirs: vec![165; answers::BUFFER] };
+    let mut lent = Lent { ours: vec![165; answers::BUFFER], theirs: vec![165; answers::BUFFER], numbers: [0; 5] };
     let mut timed: Vec<Timed> = rows.iter().map(Timed::new).collect();
     for row in &mut timed {
         row.calibrate(&mut lent);
@@ -84,10 +84,11 @@ fn arguments() -> Result<(String, usize), String> {
 
 // ---- timing ------------------------------------------------------------------------------------------------------------
 
-/// The buffer that is lent to each side. It is filled once, and is not cleared between the calls.
+/// The buffer that is lent to each side, and what our readings are written to. They are filled once, and are not cleared between the calls.
 struct Lent {
     ours: Vec<u8>,
     theirs: Vec<u8>,
+    numbers: answers::Numbers,
 }
 
 /// A row with the best time of a call, in nanoseconds, for each side that it has.
@@ -149,10 +150,10 @@ impl<'a> Timed<'a> {
 
     /// The time that a side takes for all texts, so many times over.
     fn time(&self, side: Side, repetitions: u32, lent: &mut Lent) -> Duration {
-        let Lent { ours, theirs } = lent;
+        let Lent { ours, theirs, numbers } = lent;
         let times = Times { row: self, side, repetitions };
         match self.row.call {
-            Call::Read => times.of(|text| kept(ours::read(text)), |text| kept(Literal::parse(text))),
+            Call::Read => times.of(|text| ours::read(text, black_box(numbers)), |text| kept(Literal::parse(text))),
             Call::Value => times.of(|text| kept(ours::value(text)), |text| kept(rust::value(text))),
             Call::DecodeOwned(entry) => times.of(
                 |text| kept(ours::decode(entry, text, black_box(ours))),

@@ -21,11 +21,9 @@ extern "C" {
 // SAFETY, of all four: pointers and lengths are those of slices or locals, whose bytes all have values and which are not null; what
 // is written is lent to the call alone.
 
-/// The five numbers of the reading by entry 0.
-pub fn read(text: &[u8]) -> Numbers {
-    let mut answer = [0; 5];
+/// Writes the five numbers of the reading by entry 0.
+pub fn read(text: &[u8], answer: &mut Numbers) {
     unsafe { keybasket_read(0, text.as_ptr(), text.len(), answer.as_mut_ptr()) };
-    answer
 }
 
 /// The value of an integer as u64.

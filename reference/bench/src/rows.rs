@@ -22,8 +22,9 @@ const PLAIN: &str = "Marion Tinsley, 1850; ";
 /// What is timed on both sides. A buffer is lent from outside, the same one at each call, and is not cleared in between.
 #[derive(Clone, Copy)]
 pub enum Call {
-    /// Ours: keybasket_read by entry 0, whose answer has the length of a string's value, but not its bytes. The Rust: `Literal::parse`,
-    /// which allocates and writes the value where a string has escapes, and for every C string; freeing it is timed too.
+    /// Ours: keybasket_read by entry 0 into five lent numbers, which have the length of a string's value, but not its bytes. The Rust:
+    /// `Literal::parse`, which allocates and writes the value where a string has escapes, and for every C string; freeing it is timed
+    /// too. Neither side's answer is copied.
     Read,
     /// Ours: keybasket_value at u64. The Rust: `IntegerLit::parse` and `value::<u64>()`.
     Value,
