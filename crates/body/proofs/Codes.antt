@@ -16,6 +16,7 @@ use Rattle.parse.specs.Class.{classOf}
 use Rattle.parse.specs.Sets.{blank}
 use Rattle.utf8.specs.Cut.{tail, isBoundary, lastLen, front}
 use Rattle.utf8.proofs.Cuts.{front-length, front-drop}
+use Rattle.escape.specs.Allows.{byteEscapes, allowNul}
 use Rattle.escape.specs.Escape.{Escaped, value, bad, bytesOf, letterOf, xByte, xEscape, escapeBy, escapeOf}
 use Rattle.escape.specs.Code.{pieceCode, escapeCode, codedLen, codedValue}
 use Rattle.escape.specs.declared.Allowed.{Allowed}
@@ -96,7 +97,7 @@ unfolding xByte
 x-byte k v =
     let P : Escaped → Type 0 = λ x. Four (ofEscape x) in
     let four : P (value (Byte v) 4) = (refl, refl) in
-    cond-in P (not (k .«byte_escapes») && ltb 127 v) (λ h. tt) (λ h. cond-in P (not (k .«allow_nul») && eqb v 0) (λ z. tt) (λ z. four))
+    cond-in P (not (byteEscapes k) && ltb 127 v) (λ h. tt) (λ h. cond-in P (not (allowNul k) && eqb v 0) (λ z. tt) (λ z. four))
 
 backslash-x : (k : Allowed) (s : List ℕ) → getD s 1 0 ≡ 120 → Four (backslashOf k s)
 unfolding backslashOf escapeOf escapeBy letterOf xEscape

@@ -23,6 +23,7 @@ use Rattle.utf8.specs.Cut.{tail}
 use Rattle.utf8.proofs.Laws.{is-row1, encode-high}
 use Rattle.utf8.proofs.Text.{utf8-nil, utf8-one, utf8-append, utf8-ascii, utf8-behind-ascii, boundary-at, boundary-take, boundary-drop}
 use Rattle.utf8.proofs.Aligned.{aligned}
+use Rattle.escape.specs.Allows.{byteEscapes, allowNul}
 use Rattle.escape.specs.Escape.{letterOf, bytesOf}
 use Rattle.escape.specs.Pieces.{Esc, letter, nul, hex, uni}
 use Rattle.escape.specs.declared.Allowed.{Allowed}
@@ -53,23 +54,23 @@ encode-no-zero v g =
     by-lt v 0x80 (λ h. rw (is-row1 v h) (other v g, tt))
     (λ h. all-at (except 0) (encode v) (λ i l. other (getD (encode v) i 0) (λ e. omega (arith, encode-high v h i l))))
 
-module _ (k : Allowed) (no : k .«allow_nul» ≡ false) where
+module _ (k : Allowed) (no : allowNul k ≡ false) where
   escape-no-zero : {t : List ℕ} {u : Unescaped} → Esc k t u → All (except 0) (bytesOf u)
   escape-no-zero (letter b h) = (other (letterOf b) h, tt)
   escape-no-zero (nul a) = clash a no
-  escape-no-zero (hex a b h g p q) = (other (classOf b + 16 * classOf a) (tested (k .«allow_nul») _ no q), tt)
-  escape-no-zero (uni {v = v} u h l z sc e) = encode-no-zero v (tested (k .«allow_nul») v no z)
+  escape-no-zero (hex a b h g p q) = (other (classOf b + 16 * classOf a) (tested (allowNul k) _ no q), tt)
+  escape-no-zero (uni {v = v} u h l z sc e) = encode-no-zero v (tested (allowNul k) v no z)
 
   pub content-no-zero : {c v : List ℕ} → Content k c v → All (except 0) v
   content-no-zero none = tt
-  content-no-zero (char b h r) = (other b (tested (k .«allow_nul») b no (h .nul)), content-no-zero r)
+  content-no-zero (char b h r) = (other b (tested (allowNul k) b no (h .nul)), content-no-zero r)
   content-no-zero (escape {v = v} {u = u} x r e f) = rw f (all-append (except 0) (bytesOf u) v (escape-no-zero x) (content-no-zero r))
   content-no-zero (continue ws a st r e) = content-no-zero r
 
   pub raw-no-zero : {h : ℕ} (v r : List ℕ) → RawContent k h (v ++ r) (length v) → All (except 0) v
   raw-no-zero v r c =
       all-at (except 0) v λ i l.
-      other (getD v i 0) (tested (k .«allow_nul») (getD v i 0) no (rw (List·getD-append v r 0 i l) at (c .chars i l .nul)))
+      other (getD v i 0) (tested (allowNul k) (getD v i 0) no (rw (List·getD-append v r 0 i l) at (c .chars i l .nul)))
 
 -- ---- UTF-8
 
@@ -101,7 +102,7 @@ behind-blanks (b ∷ ws) r a u = behind-blanks ws r (a .1) (cut-at-ascii [] b (w
     low (inr (inl e)) = omega arith
     low (inr (inr e)) = omega arith
 
-module _ (k : Allowed) (low : k .«byte_escapes» ≡ false) where
+module _ (k : Allowed) (low : byteEscapes k ≡ false) where
   escape-utf8 : {t : List ℕ} {u : Unescaped} → Esc k t u → Utf8 (bytesOf u)
   unfolding tail
   escape-utf8 {t} {u} x = go u (rw (escaped k [] x refl) at (escape-unwraps k (t ++ [])))

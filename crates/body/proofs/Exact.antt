@@ -14,6 +14,7 @@ use Rattle.scan.specs.Run.{run}
 use Rattle.scan.specs.Sets.{only}
 use Rattle.scan.proofs.Cases.{cond-in, cond-eq, by-lt}
 use Rattle.utf8.specs.Cut.{Aligned}
+use Rattle.escape.specs.Allows.{unicode, allowNul}
 use Rattle.escape.specs.declared.Allowed.{Allowed}
 use Rattle.escape.specs.declared.Unescaped.the-variants.{Byte}
 use Rattle.body.specs.Step.{close, refuse, Next, piece, stop, plainOf, rawByte, rawStepOf}
@@ -63,11 +64,11 @@ module _ (k : Allowed) (h : ℕ) where
       λ q.
       cond-eq P b 13 (λ e. tt) λ cr.
       cond-eq P b 34 (λ e. absurd (q e)) λ e.
-      cond-in P (not (k .«allow_nul») && eqb b 0) (λ e. tt) λ nul.
-      cond-in P (not (k .unicode) && ltb 127 b) (λ e. tt) λ ascii. (refl, record { cr = cr; nul = nul; ascii = ascii }, λ c. q (c .0))
+      cond-in P (not (allowNul k) && eqb b 0) (λ e. tt) λ nul.
+      cond-in P (not (unicode k) && ltb 127 b) (λ e. tt) λ ascii. (refl, record { cr = cr; nul = nul; ascii = ascii }, λ c. q (c .0))
     where
       quote-char : (b : ℕ) → b ≡ 34 → RawChar k b
-      quote-char b e = rw e (record { cr = λ x. omega arith; nul = and-false (not (k .«allow_nul»)); ascii = and-false (not (k .unicode)) })
+      quote-char b e = rw e (record { cr = λ x. omega arith; nul = and-false (not (allowNul k)); ascii = and-false (not (unicode k)) })
 
   -- one byte more
   on : (b : ℕ) (s : List ℕ) (n : ℕ) → RawChar k b → (ClosesAt h (b ∷ s) 0 → ⊥) → RawContent k h s n → RawContent k h (b ∷ s) (suc n)

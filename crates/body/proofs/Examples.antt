@@ -1,7 +1,6 @@
 -- Document 01's marked readings of quoted strings, and one text for each kind of piece, by computing.
 -- Assumes nothing.
 use mathlib.Core.Path.{_≡_, refl}
-use mathlib.Core.Bool.{true, false}
 use mathlib.Core.List.{[], _∷_}
 use Rattle.err.specs.Outcome.{none, between, raw}
 use Rattle.scan.specs.Sets.{except, only}
@@ -11,16 +10,17 @@ use Rattle.parse.specs.Suffix.{suffixFault, faultFrom, suffixStart}
 use Rattle.utf8.specs.Utf8.{encode}
 use Rattle.utf8.specs.Cut.{tail, isBoundary}
 use Rattle.escape.specs.declared.Allowed.{Allowed}
+use Rattle.escape.specs.declared.Allowed.the-variants as allowed
 use Rattle.escape.specs.Escape.{letterOf, xByte, xEscape, isScalar, uScalar, badStart, uInner, uBraced, uEscape, escapeBy, escapeOf}
 use Rattle.body.specs.Step.{close, lineBreakOf, backslashOf, plainOf, stepOf, rawByte, rawStepOf}
 use Rattle.body.specs.Body.{bodyFrom, bodyBy, body}
 use Rattle.body.specs.Quote.{quoted, refused, suffixed, stringOf, rawFrom, rawAt, rawOf}
 
 abbrev string : Allowed
-string = record { unicode = true; «byte_escapes» = false; «allow_nul» = true }
+string = allowed.Text
 
 abbrev cString : Allowed
-cString = record { unicode = true; «byte_escapes» = true; «allow_nul» = false }
+cString = allowed.C
 
 -- `"\"` is 9 at 1-2, `"\x4"` is 9 at 1-4, `"\x4"u` is 10 at 1-5; and `c"\0"`, a body of four pieces, `r#""a"#`, `r##`
 pub record Marked : Type 0 where

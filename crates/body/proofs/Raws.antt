@@ -11,6 +11,7 @@ use lib.Seq.{take-add, drop-cons, length-take-le}
 use Rattle.scan.specs.Run.{run, Stops}
 use Rattle.scan.specs.Sets.{only}
 use Rattle.scan.proofs.Cases.{cond-in, cond-eq, by-lt}
+use Rattle.escape.specs.Allows.{unicode, allowNul}
 use Rattle.escape.specs.Escape.{bytesOf}
 use Rattle.escape.specs.declared.Allowed.{Allowed}
 use Rattle.escape.specs.declared.Unescaped.{Unescaped}
@@ -37,8 +38,8 @@ one-byte k h (b ∷ s) =
     cond-eq P b 34 (λ e. cond-in P (leb h (run (only 35) s)) (λ f. tt) (λ f. (refl, ap Byte (sym e)))) λ e.
     cond-eq P b 13 (λ f. tt) λ f.
     cond-eq P b 34 (λ f. tt) λ f.
-    cond-in P (not (k .«allow_nul») && eqb b 0) (λ g. tt) λ g.
-    cond-in P (not (k .unicode) && ltb 127 b) (λ g. tt) λ g. (refl, refl)
+    cond-in P (not (allowNul k) && eqb b 0) (λ g. tt) λ g.
+    cond-in P (not (unicode k) && ltb 127 b) (λ g. tt) λ g. (refl, refl)
 
 pub take-none : (s : List ℕ) → take 0 s ≡ []
 take-none [] = refl
@@ -112,7 +113,7 @@ module _ (k : Allowed) (h : ℕ) where
     raw-backslash e =
         sym (steps.raw-plain k h s i (inside s i 92 e (omega arith)) (λ x. omega arith))
         ∙ ap (plainOf k) e
-        ∙ sym (steps.is-plain k 92 (λ x. omega arith) (λ x. omega arith) (and-false (not (k .«allow_nul»))) (and-false (not (k .unicode))))
+        ∙ sym (steps.is-plain k 92 (λ x. omega arith) (λ x. omega arith) (and-false (not (allowNul k))) (and-false (not (unicode k))))
 
     -- the measure of the whole, where it ends
     pub raw-measures : (x : End) → rawStepOf k h (drop i s) ≡ stop x → (m : Measured) → m .at ≡ i → m .len ≡ i → endOf (m .end) ≡ x

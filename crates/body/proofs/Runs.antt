@@ -14,6 +14,7 @@ use Rattle.err.specs.Outcome.{between}
 use Rattle.scan.specs.Run.{run, Stops}
 use Rattle.scan.proofs.Cases.{clash}
 use Rattle.scan.proofs.Runs.{run-le, run-stops}
+use Rattle.escape.specs.Allows.{unicode, allowNul}
 use Rattle.escape.specs.declared.Allowed.{Allowed}
 use Rattle.escape.specs.declared.Unescaped.the-variants.{Byte}
 use Rattle.body.specs.Code.{Stopped}
@@ -49,7 +50,7 @@ tests false false false false false n u f t = (refl, refl, refl, and-false (not 
 pub plain-char : (k : Allowed) (b : ℕ) → plainByte k b ≡ true → Char k b
 unfolding plainByte
 plain-char k b t =
-    let r = tests (eqb b 92) (eqb b 13) (eqb b 34) (eqb b 0) (ltb 127 b) (k .«allow_nul») (k .unicode)
+    let r = tests (eqb b 92) (eqb b 13) (eqb b 34) (eqb b 0) (ltb 127 b) (allowNul k) (unicode k)
     (λ e. le-ltb 127 b (omega (arith, eqb-true b 0 e))) t in
     record {
       backslash = eqb-false b 92 (r .0);
@@ -70,7 +71,7 @@ raw-plain-step k h b s t = raw-char-step k h b s (plain-char k b t)
 pub plain-stops : (k : Allowed) (b : ℕ) → plainByte k b ≡ false → (b ≡ 92 → ⊥) → Stopped (plainOf k b)
 unfolding plainByte plainOf
 plain-stops k b t other =
-    go (eqb b 13) (eqb b 34) (eqb b 0) (ltb 127 b) (k .«allow_nul») (k .unicode) (rw (ne-eqb b 92 other) at t)
+    go (eqb b 13) (eqb b 34) (eqb b 0) (ltb 127 b) (allowNul k) (unicode k) (rw (ne-eqb b 92 other) at t)
   where
     go : (c q z h n u : Bool) → cond c false (cond q false (cond z n (cond h u true))) ≡ false
         → Stopped (cond c (stop (refuse 37 (between 0 1)))

@@ -14,6 +14,7 @@ use Rattle.scan.proofs.Cases.{cond-in, cond-eq}
 use Rattle.scan.proofs.Runs.{run-all, run-stops}
 use Rattle.parse.specs.Sets.{blank}
 use Rattle.utf8.specs.Cut.{lastLen, front}
+use Rattle.escape.specs.Allows.{unicode, allowNul}
 use Rattle.escape.specs.Escape.{Escaped, value, bad, bytesOf, escapeOf}
 use Rattle.escape.specs.Pieces.{Esc}
 use Rattle.escape.specs.declared.Allowed.{Allowed}
@@ -82,8 +83,8 @@ module _ (k : Allowed) where
       let P : Next → Type 0 = Stepped (b ∷ s) in
       cond-eq P b 13 (λ e. tt) λ cr.
       cond-eq P b 34 (λ e. e) λ quote.
-      cond-in P (not (k .«allow_nul») && eqb b 0) (λ e. tt) λ nul.
-      cond-in P (not (k .unicode) && ltb 127 b) (λ e. tt) λ ascii.
+      cond-in P (not (allowNul k) && eqb b 0) (λ e. tt) λ nul.
+      cond-in P (not (unicode k) && ltb 127 b) (λ e. tt) λ ascii.
       inl (b, refl, record { backslash = h; quote = quote; cr = cr; nul = nul; ascii = ascii }, refl)
 
   step-sound : (s : List ℕ) → Stepped s (stepOf k s)

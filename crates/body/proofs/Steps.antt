@@ -15,6 +15,7 @@ use Rattle.scan.specs.Run.{run}
 use Rattle.scan.specs.Sets.{only}
 use Rattle.parse.specs.Sets.{blank}
 use Rattle.utf8.specs.Cut.{front}
+use Rattle.escape.specs.Allows.{unicode, allowNul}
 use Rattle.escape.specs.Escape.{escapeOf}
 use Rattle.escape.specs.declared.Allowed.{Allowed}
 use Rattle.escape.specs.declared.Unescaped.the-variants.{Nothing, Byte}
@@ -55,16 +56,16 @@ module _ (k : Allowed) (b : ℕ) where
     is-quote e = rw (ne-eqb _ _ cr, eq-eqb _ _ e)
 
     module _ (quote : b ≡ 34 → ⊥) where
-      pub is-nul : (not (k .«allow_nul») && eqb b 0) ≡ true → stop (refuse 36 (between 0 1)) ≡ plainOf k b
+      pub is-nul : (not (allowNul k) && eqb b 0) ≡ true → stop (refuse 36 (between 0 1)) ≡ plainOf k b
       unfolding plainOf
       is-nul e = rw (ne-eqb _ _ cr, ne-eqb _ _ quote, e)
 
-      module _ (nul : (not (k .«allow_nul») && eqb b 0) ≡ false) where
-        pub is-high : (not (k .unicode) && ltb 127 b) ≡ true → stop (refuse 25 (between 0 1)) ≡ plainOf k b
+      module _ (nul : (not (allowNul k) && eqb b 0) ≡ false) where
+        pub is-high : (not (unicode k) && ltb 127 b) ≡ true → stop (refuse 25 (between 0 1)) ≡ plainOf k b
         unfolding plainOf
         is-high e = rw (ne-eqb _ _ cr, ne-eqb _ _ quote, nul, e)
 
-        pub is-plain : (not (k .unicode) && ltb 127 b) ≡ false → piece 1 (Byte b) ≡ plainOf k b
+        pub is-plain : (not (unicode k) && ltb 127 b) ≡ false → piece 1 (Byte b) ≡ plainOf k b
         unfolding plainOf
         is-plain e = rw (ne-eqb _ _ cr, ne-eqb _ _ quote, nul, e)
 

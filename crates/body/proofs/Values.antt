@@ -13,6 +13,7 @@ use Rattle.scan.specs.Run.{run}
 use Rattle.scan.proofs.Cases.{cond-in, cond-eq, clash}
 use Rattle.parse.specs.Sets.{blank}
 use Rattle.utf8.specs.Cut.{front}
+use Rattle.escape.specs.Allows.{unicode, byteEscapes, allowNul}
 use Rattle.escape.specs.Escape.{Escaped, value, bad, bytesOf, escapeOf}
 use Rattle.escape.specs.declared.Allowed.{Allowed}
 use Rattle.escape.specs.declared.Unescaped.{Unescaped}
@@ -60,8 +61,8 @@ plain-unwraps k b s other =
     let P : Next → Type 0 = StepUnwraps k (b ∷ s) in
     cond-eq P b 13 (λ e. tt) λ e.
     cond-eq P b 34 (λ e. tt) λ e.
-    cond-in P (not (k .«allow_nul») && eqb b 0) (λ e. tt) λ e.
-    cond-in P (not (k .unicode) && ltb 127 b) (λ e. tt) λ e. ((λ x. absurd (other x)), (λ x. refl))
+    cond-in P (not (allowNul k) && eqb b 0) (λ e. tt) λ e.
+    cond-in P (not (unicode k) && ltb 127 b) (λ e. tt) λ e. ((λ x. absurd (other x)), (λ x. refl))
 
 -- THE LAW, for every byte list
 pub step-unwraps : (k : Allowed) (s : List ℕ) → StepUnwraps k s (stepOf k s)
@@ -74,7 +75,7 @@ module _ (k : Allowed) (s : List ℕ) (n : ℕ) where
   told u e = rw e at (step-unwraps k s)
 
   -- where the kind has no Unicode escapes, no step gives a character
-  pub no-unicode : (c : ℕ) → k .unicode ≡ false → stepOf k s ≡ piece n (Unicode c) → ⊥
+  pub no-unicode : (c : ℕ) → unicode k ≡ false → stepOf k s ≡ piece n (Unicode c) → ⊥
   no-unicode c u e =
       let r = told (Unicode c) e in
       cond-eq (λ (x : ℕ). ⊥) (getD s 0 0) 92 {x = 0} {y = 0}
@@ -82,7 +83,7 @@ module _ (k : Allowed) (s : List ℕ) (n : ℕ) where
       (λ b. let z : _≡_ {A = ℕ} 0 1 = cc (r .1 b) in omega arith)
 
   -- where it has no byte escapes, an escape gives a byte below 128
-  pub escape-low : (b : ℕ) → k .«byte_escapes» ≡ false → getD s 0 0 ≡ 92 → stepOf k s ≡ piece n (Byte b) → b < 128
+  pub escape-low : (b : ℕ) → byteEscapes k ≡ false → getD s 0 0 ≡ 92 → stepOf k s ≡ piece n (Byte b) → b < 128
   escape-low b u f e = told (Byte b) e .0 f .1 u
 
   -- a byte value is below 256 where the text's bytes are
@@ -120,8 +121,8 @@ plain-itself k b s =
     let P : Next → Type 0 = Itself (b ∷ s) in
     cond-eq P b 13 (λ e. tt) λ e.
     cond-eq P b 34 (λ e. tt) λ e.
-    cond-in P (not (k .«allow_nul») && eqb b 0) (λ e. tt) λ e.
-    cond-in P (not (k .unicode) && ltb 127 b) (λ e. tt) λ e g. sym (take-one (b ∷ s) (omega arith))
+    cond-in P (not (allowNul k) && eqb b 0) (λ e. tt) λ e.
+    cond-in P (not (unicode k) && ltb 127 b) (λ e. tt) λ e g. sym (take-one (b ∷ s) (omega arith))
 
 step-itself : (k : Allowed) (s : List ℕ) → Itself s (stepOf k s)
 unfolding stepOf

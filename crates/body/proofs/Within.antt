@@ -16,6 +16,7 @@ use Rattle.scan.proofs.Runs.{run-le}
 use Rattle.parse.specs.Sets.{blank}
 use Rattle.utf8.specs.Cut.{front}
 use Rattle.utf8.proofs.Cuts.{front-length}
+use Rattle.escape.specs.Allows.{unicode, allowNul}
 use Rattle.escape.specs.Escape.{Escaped, value, bad, bytesOf, Valid, escapeOf}
 use Rattle.escape.specs.declared.Allowed.{Allowed}
 use Rattle.escape.proofs.Within.{EscapeIn, escape-in}
@@ -67,8 +68,8 @@ plain-in k q b m h c =
     let P : Next → Type 0 = NextIn q m in
     cond-eq P b 13 (λ e. omega arith) λ e.
     cond-eq P b 34 c λ e.
-    cond-in P (not (k .«allow_nul») && eqb b 0) (λ e. omega arith) λ e.
-    cond-in P (not (k .unicode) && ltb 127 b) (λ e. omega arith) λ e. (omega arith, h, omega arith, tt)
+    cond-in P (not (allowNul k) && eqb b 0) (λ e. omega arith) λ e.
+    cond-in P (not (unicode k) && ltb 127 b) (λ e. omega arith) λ e. (omega arith, h, omega arith, tt)
 
 -- THE LAW of quoted bodies
 pub step-in : (k : Allowed) (s : List ℕ) → NextIn 1 (length s) (stepOf k s)

@@ -9,6 +9,7 @@ use lib.ListN.{getD, drop}
 use Rattle.scan.specs.Run.{run, All, Stops}
 use Rattle.scan.specs.Sets.{only}
 use Rattle.parse.specs.Sets.{blank}
+use Rattle.escape.specs.Allows.{unicode, allowNul}
 use Rattle.escape.specs.Escape.{bytesOf}
 use Rattle.escape.specs.Pieces.{Esc}
 use Rattle.escape.specs.declared.Allowed.{Allowed}
@@ -19,8 +20,8 @@ pub record Char (k : Allowed) (b : ℕ) : Type 0 where
   pub backslash : b ≡ 92 → ⊥
   pub quote : b ≡ 34 → ⊥
   pub cr : b ≡ 13 → ⊥
-  pub nul : (not (k .«allow_nul») && eqb b 0) ≡ false
-  pub ascii : (not (k .unicode) && ltb 127 b) ≡ false
+  pub nul : (not (allowNul k) && eqb b 0) ≡ false
+  pub ascii : (not (unicode k) && ltb 127 b) ≡ false
 
 -- What stands between the quotes, and its value: bytes that stand for themselves, escapes, and dropped line breaks, each of which drops
 -- every space, tab and LF that follows. `proofs/Exact` shows that `body` reads exactly this, and `rawBody` what is below.
@@ -35,8 +36,8 @@ pub data Content (k : Allowed) : List ℕ → List ℕ → Type 0 where
 -- a byte of a raw body: no CR, and no NUL or byte above 127 where the kind has none
 pub record RawChar (k : Allowed) (b : ℕ) : Type 0 where
   pub cr : b ≡ 13 → ⊥
-  pub nul : (not (k .«allow_nul») && eqb b 0) ≡ false
-  pub ascii : (not (k .unicode) && ltb 127 b) ≡ false
+  pub nul : (not (allowNul k) && eqb b 0) ≡ false
+  pub ascii : (not (unicode k) && ltb 127 b) ≡ false
 
 -- a quote that h hashes follow stands at n
 abbrev pub ClosesAt : ℕ → List ℕ → ℕ → Type 0

@@ -12,6 +12,7 @@ use Rattle.scan.specs.Run.{run}
 use Rattle.scan.specs.Sets.{only}
 use Rattle.parse.specs.Sets.{blank}
 use Rattle.utf8.specs.Cut.{front}
+use Rattle.escape.specs.Allows.{unicode, allowNul}
 use Rattle.escape.specs.Escape.{Escaped, value, bad, escapeOf}
 use Rattle.escape.specs.declared.Allowed.{Allowed}
 use Rattle.escape.specs.declared.Unescaped.{Unescaped}
@@ -64,8 +65,8 @@ unfoldable pub plainOf : Allowed → ℕ → Next
 plainOf k b =
     cond (eqb b 13) (stop (refuse 37 (between 0 1)))
     (cond (eqb b 34) (stop close)
-    (cond (not (k .«allow_nul») && eqb b 0) (stop (refuse 36 (between 0 1)))
-    (cond (not (k .unicode) && ltb 127 b) (stop (refuse 25 (between 0 1)))
+    (cond (not (allowNul k) && eqb b 0) (stop (refuse 36 (between 0 1)))
+    (cond (not (unicode k) && ltb 127 b) (stop (refuse 25 (between 0 1)))
     (piece 1 (Byte b)))))
 
 -- `match input.as_bytes()[i]` of `unescape_string`, on what is left of the text; behind the last byte 30
@@ -79,7 +80,7 @@ plainByte k b =
     cond (eqb b 92) false
     (cond (eqb b 13) false
     (cond (eqb b 34) false
-    (cond (eqb b 0) (k .«allow_nul») (cond (ltb 127 b) (k .unicode) true))))
+    (cond (eqb b 0) (allowNul k) (cond (ltb 127 b) (unicode k) true))))
 
 -- ---- raw bodies
 

@@ -66,10 +66,10 @@ fn plain(b: u8, k: Allowed) -> Step
     if b == b'"' {
         return Step::Stop(Ending::Close);
     }
-    if escape::bars(k.allow_nul, b == 0) {
+    if escape::bars(k.allow_nul(), b == 0) {
         return refuse(ParseErrorKind::NulByte);
     }
-    if escape::bars(k.unicode, 127 < b) {
+    if escape::bars(k.unicode(), 127 < b) {
         return refuse(ParseErrorKind::NonAsciiInByteLiteral);
     }
     Step::Piece(Unescaped::Byte(b), 1)
@@ -89,10 +89,10 @@ fn is_plain(b: u8, k: Allowed) -> bool
         return false;
     }
     if b == 0 {
-        return k.allow_nul;
+        return k.allow_nul();
     }
     if 127 < b {
-        return k.unicode;
+        return k.unicode();
     }
     true
 }

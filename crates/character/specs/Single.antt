@@ -2,7 +2,7 @@
 -- character starts, in what may stand there, and in three refusals.
 -- Assumes nothing.
 use Prim.Native.Nat.{ℕ, _+_, _≤_, _<_}
-use mathlib.Core.Bool.{Bool, true, false, cond, _||_, _&&_}
+use mathlib.Core.Bool.{Bool, cond, _||_, _&&_}
 use mathlib.Core.List.{List, [], _∷_}
 use lib.Dec.{eqb, ltb}
 use lib.ListN.{length, getD, drop}
@@ -18,6 +18,7 @@ use Rattle.utf8.specs.declared.Decoded.the-variants as decoded
 use Rattle.escape.specs.Escape.{Escaped, escapeOf}
 use Rattle.escape.specs.Escape as escape
 use Rattle.escape.specs.declared.Allowed.{Allowed}
+use Rattle.escape.specs.declared.Allowed.the-variants as allowed
 use Rattle.escape.specs.declared.Unescaped.{Unescaped}
 use Rattle.escape.specs.declared.Unescaped.the-variants as unescaped
 use Rattle.character.specs.declared.Quote.{Quote}
@@ -39,8 +40,8 @@ offsetOf Byte = 2
 
 -- the arguments that litrs gives `unescape`
 abbrev pub allowedIn : Quote → Allowed
-allowedIn Char = record { unicode = true; «byte_escapes» = false; «allow_nul» = true }
-allowedIn Byte = record { unicode = false; «byte_escapes» = true; «allow_nul» = true }
+allowedIn Char = allowed.Text
+allowedIn Byte = allowed.Bytes
 
 -- UnterminatedCharLiteral, UnterminatedByteLiteral
 abbrev pub unterminated : Quote → ℕ

@@ -61,16 +61,8 @@ impl Quote {
         ensures { λ r. ⌜ r ≡ allowedIn self ⌝ }
     {
         match self {
-            Quote::Char => Allowed {
-                unicode: true,
-                byte_escapes: false,
-                allow_nul: true,
-            },
-            Quote::Byte => Allowed {
-                unicode: false,
-                byte_escapes: true,
-                allow_nul: true,
-            },
+            Quote::Char => Allowed::Text,
+            Quote::Byte => Allowed::Bytes,
         }
     }
 

@@ -13,6 +13,7 @@ use Rattle.scan.proofs.Cases.{cond-eq, clash}
 use Rattle.parse.specs.Class.{classOf}
 use Rattle.utf8.specs.Utf8.{encode}
 use Rattle.utf8.proofs.Laws.{is-row1}
+use Rattle.escape.specs.Allows as allows
 use Rattle.escape.specs.Escape.{letterOf}
 use Rattle.escape.specs.Pieces.{Hexes, one, more, Esc, letter, nul, hex, uni}
 use Rattle.escape.specs.declared.Allowed.{Allowed}
@@ -120,10 +121,10 @@ groups-to (suc n) d l (w, q, e, (b, is, h), (us, z, f, t, g)) =
 
 -- no NUL where the kind has none, and no byte above 127
 abbrev pub NoNul : Allowed → ℕ → Type 0
-NoNul k v = (not (k .«allow_nul») && eqb v 0) ≡ false
+NoNul k v = (not (allows.allowNul k) && eqb v 0) ≡ false
 
 abbrev pub Fits : Allowed → ℕ → Type 0
-Fits k v = (not (k .«byte_escapes») && ltb 127 v) ≡ false
+Fits k v = (not (allows.byteEscapes k) && ltb 127 v) ≡ false
 
 -- an escape by the productions, where the kind allows it
 data Meant (k : Allowed) (t : List ℕ) : Unescaped → Type 0 where
@@ -131,11 +132,11 @@ data Meant (k : Allowed) (t : List ℕ) : Unescaped → Type 0 where
   simple : (v : ℕ) → COMMON-ESCAPE t v → NoNul k v → Meant k t (Byte v)
   code : (a b v : ℕ) → T (HEX-DIGIT a) → T (HEX-DIGIT b) → t ≡ 92 ∷ 120 ∷ a ∷ b ∷ [] → v ≡ digitValue a * 16 + digitValue b
       → Fits k v → NoNul k v → Meant k t (Byte v)
-  unicode : (v : ℕ) → k .unicode ≡ true → UNICODE-ESCAPE t v → NoNul k v → Meant k t (Unicode v)
+  unicode : (v : ℕ) → allows.unicode k ≡ true → UNICODE-ESCAPE t v → NoNul k v → Meant k t (Unicode v)
 
 -- a value that is not 0
 some-value : (k : Allowed) (v : ℕ) → 1 ≤ v → NoNul k v
-some-value k v h = rw (ne-eqb v 0 (λ e. omega arith)) (and-none (not (k .«allow_nul»)))
+some-value k v h = rw (ne-eqb v 0 (λ e. omega arith)) (and-none (not (allows.allowNul k)))
   where
     and-none : (a : Bool) → (a && false) ≡ false
     and-none true = refl
@@ -185,7 +186,7 @@ simple-stands lf z = letter 110 (λ e. omega arith)
 simple-stands cr z = letter 114 (λ e. omega arith)
 simple-stands ht z = letter 116 (λ e. omega arith)
 simple-stands reverse-solidus z = letter 92 (λ e. omega arith)
-simple-stands {k} escapes.nul z = nul (has-nul (k .«allow_nul») z)
+simple-stands {k} escapes.nul z = nul (has-nul (allows.allowNul k) z)
 
 means-esc : {k : Allowed} {t : List ℕ} {u : Unescaped} → Meant k t u → Esc k t u
 means-esc (quote v q) = quote-stands q
@@ -204,7 +205,7 @@ means-esc (unicode v u x z) =
 pub data Seven (k : Allowed) (t : List ℕ) : Unescaped → Type 0 where
   quote : (v : ℕ) → QUOTE-ESCAPE t v → Seven k t (Byte v)
   ascii : (v : ℕ) → ASCII-ESCAPE t v → NoNul k v → Seven k t (Byte v)
-  unicode : (v : ℕ) → k .unicode ≡ true → UNICODE-ESCAPE t v → NoNul k v → Seven k t (Unicode v)
+  unicode : (v : ℕ) → allows.unicode k ≡ true → UNICODE-ESCAPE t v → NoNul k v → Seven k t (Unicode v)
 
 -- two digits are at most 7F exactly where the first is octal
 oct-to : (a b v : ℕ) → T (HEX-DIGIT a) → T (HEX-DIGIT b) → v ≡ digitValue a * 16 + digitValue b → v ≤ 127 → T (OCT-DIGIT a)
@@ -234,7 +235,7 @@ pub quote-bytes : {t : List ℕ} {v : ℕ} → QUOTE-ESCAPE t v → encode v ≡
 quote-bytes apostrophe = is-row1 39 (omega arith)
 quote-bytes quotation-mark = is-row1 34 (omega arith)
 
-module _ {k : Allowed} (bits : k .«byte_escapes» ≡ false) {t : List ℕ} where
+module _ {k : Allowed} (bits : allows.byteEscapes k ≡ false) {t : List ℕ} where
   pub esc-seven : {u : Unescaped} → Esc k t u → Seven k t u
   esc-seven x = go (esc-means x)
     where
@@ -261,13 +262,13 @@ module _ {k : Allowed} (bits : k .«byte_escapes» ≡ false) {t : List ℕ} whe
 
 pub data Eight (k : Allowed) (t : List ℕ) : Unescaped → Type 0 where
   byte : (v : ℕ) → BYTE-ESCAPE t v → NoNul k v → Eight k t (Byte v)
-  unicode : (v : ℕ) → k .unicode ≡ true → UNICODE-ESCAPE t v → NoNul k v → Eight k t (Unicode v)
+  unicode : (v : ℕ) → allows.unicode k ≡ true → UNICODE-ESCAPE t v → NoNul k v → Eight k t (Unicode v)
 
 quote-some : (k : Allowed) {t : List ℕ} {v : ℕ} → QUOTE-ESCAPE t v → NoNul k v
 quote-some k apostrophe = some-value k 39 (omega arith)
 quote-some k quotation-mark = some-value k 34 (omega arith)
 
-module _ {k : Allowed} (bits : k .«byte_escapes» ≡ true) {t : List ℕ} where
+module _ {k : Allowed} (bits : allows.byteEscapes k ≡ true) {t : List ℕ} where
   pub esc-eight : {u : Unescaped} → Esc k t u → Eight k t u
   esc-eight x = go (esc-means x)
     where

@@ -15,6 +15,7 @@ use Rattle.scan.specs.Sets.{except}
 use Rattle.scan.proofs.Cases.{cond-in, cond-eq, cond-lt}
 use Rattle.scan.proofs.Runs.{run-le}
 use Rattle.parse.specs.Class.{classOf}
+use Rattle.escape.specs.Allows.{unicode}
 use Rattle.escape.specs.declared.Allowed.{Allowed}
 use Rattle.escape.specs.Code.{escapeCode}
 use Rattle.escape.specs.Escape.{Hex, hexFrom, uScalar, uHex, badStart, uInner, uEscape}
@@ -78,7 +79,7 @@ module _ (k : Allowed) where
       rw (ne-eqb b 125 f, eqb·suc-suc, ne-eqb b 95 g, le-ltb (classOf b) 16 l) (none (eqb r (length s)))
 
   -- THE LAW: behind `\u{` one pass gives the code of the escape
-  pub digits-code : (s : List ℕ) → k .unicode ≡ true → getD s 2 0 ≡ 123 → digitsCode 3 0 0 (drop 3 s) ≡ escapeCode (uEscape k s)
+  pub digits-code : (s : List ℕ) → unicode k ≡ true → getD s 2 0 ≡ 123 → digitsCode 3 0 0 (drop 3 s) ≡ escapeCode (uEscape k s)
   digits-code s u e =
       let r : List ℕ = drop 3 s in
       let n : ℕ = run (except 125) r in

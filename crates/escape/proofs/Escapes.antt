@@ -14,6 +14,7 @@ use Rattle.scan.specs.Sets.{except}
 use Rattle.parse.specs.Sets.{hexDigitOf}
 use Rattle.parse.specs.declared.HexDigit.the-variants.{Value, NotHex}
 use Rattle.utf8.specs.Cut.{isBoundary}
+use Rattle.escape.specs.Allows.{unicode, allowNul}
 use Rattle.escape.specs.declared.Allowed.{Allowed}
 use Rattle.escape.specs.declared.Unescaped.the-variants.{Byte}
 use Rattle.escape.specs.Escape.{value, bad, letterOf, xByte, xEscape, hexFrom, badStart, uHex, uInner, uBraced, uEscape, escapeBy, escapeOf}
@@ -75,11 +76,11 @@ brace-there (a ∷ b ∷ []) e = absurd (omega arith)
 brace-there (a ∷ b ∷ c ∷ s) e = omega arith
 
 module _ (k : Allowed) (s : List ℕ) where
-  pub u-barred : k .unicode ≡ false → bad 12 (between 0 2) ≡ uEscape k s
+  pub u-barred : unicode k ≡ false → bad 12 (between 0 2) ≡ uEscape k s
   unfolding uEscape
   u-barred e = rw e
 
-  module _ (u : k .unicode ≡ true) where
+  module _ (u : unicode k ≡ true) where
     pub u-no-brace : (getD s 2 0 ≡ 123 → ⊥) → bad 14 (between 0 2) ≡ uEscape k s
     unfolding uEscape
     u-no-brace e = rw (u, ne-eqb _ _ e)
@@ -106,11 +107,11 @@ module _ (k : Allowed) (s : List ℕ) where
     one-letter l is e = rw (le-ltb _ _ h, ← is, ne-eqb _ _ e)
 
     module _ (none : letterOf (getD s 1 0) ≡ 0) where
-      pub nul : getD s 1 0 ≡ 48 → k .«allow_nul» ≡ true → value (Byte 0) 2 ≡ escapeOf k s
+      pub nul : getD s 1 0 ≡ 48 → allowNul k ≡ true → value (Byte 0) 2 ≡ escapeOf k s
       unfolding escapeOf escapeBy
       nul e a = rw (le-ltb _ _ h, none, eq-eqb _ _ e, a)
 
-      pub nul-barred : getD s 1 0 ≡ 48 → k .«allow_nul» ≡ false → bad 35 (between 0 2) ≡ escapeOf k s
+      pub nul-barred : getD s 1 0 ≡ 48 → allowNul k ≡ false → bad 35 (between 0 2) ≡ escapeOf k s
       unfolding escapeOf escapeBy
       nul-barred e a = rw (le-ltb _ _ h, none, eq-eqb _ _ e, a)
 

@@ -18,6 +18,7 @@ use Rattle.parse.specs.Class.{classOf}
 use Rattle.parse.proofs.Classes.{class-above, both}
 use Rattle.utf8.specs.Cut.{tail, isBoundary, Aligned}
 use Rattle.utf8.proofs.Aligned.{aligned-at}
+use Rattle.escape.specs.Allows.{unicode, byteEscapes, allowNul}
 use Rattle.escape.specs.Escape.{Escaped, value, bad, letterOf, xByte, xEscape, Hex, number, fault, hexFrom, isScalar, uScalar, badStart, uHex, uInner, uBraced, uEscape, escapeBy, escapeOf}
 use Rattle.escape.specs.Pieces.{Hexes, one, more, Esc, letter, nul, hex, uni}
 use Rattle.escape.specs.declared.Allowed.{Allowed}
@@ -82,11 +83,11 @@ starts (more {d = d} b us m h a e f) = rw e (longer d (starts m))
 -- ---- one escape
 
 module _ (k : Allowed) where
-  unicode : {n : ℕ} {d : List ℕ} {v : ℕ} (x : List ℕ) → k .unicode ≡ true → Hexes n d v → n ≤ 6
-      → (not (k .«allow_nul») && eqb v 0) ≡ false → isScalar v ≡ true
+  u-read : {n : ℕ} {d : List ℕ} {v : ℕ} (x : List ℕ) → unicode k ≡ true → Hexes n d v → n ≤ 6
+      → (not (allowNul k) && eqb v 0) ≡ false → isScalar v ≡ true
       → escapeOf k (92 ∷ 117 ∷ 123 ∷ ((d ++ (125 ∷ [])) ++ x)) ≡ value (Unicode v) (length d + 4)
   unfolding letterOf uScalar except
-  unicode {n} {d} {v} x u h l z sc =
+  u-read {n} {d} {v} x u h l z sc =
       let r : List ℕ = (d ++ (125 ∷ [])) ++ x in
       let s : List ℕ = 92 ∷ 117 ∷ 123 ∷ r in
       let count : length d ≡ run (except 125) r =
@@ -116,7 +117,7 @@ module _ (k : Allowed) where
       ∙ sym (laws.x-value k s (boundary a b x f) (classOf a) (hex-value a h) (classOf b) (hex-value b g))
       ∙ rw (p, q)
   escaped x (uni {d = d} {t = t} {v = v} u h l z sc e) f =
-      rw e (unicode x u h l z sc ∙ ap (value (Unicode v)) (omega (arith, length-append d (125 ∷ []))))
+      rw e (u-read x u h l z sc ∙ ap (value (Unicode v)) (omega (arith, length-append d (125 ∷ []))))
 
 -- ---- where an escape ends
 
@@ -230,26 +231,26 @@ module _ (k : Allowed) where
       cond-in P (isBoundary (92 ∷ 120 ∷ a ∷ b ∷ s) 4) (λ e.
       cond-in P (ltb (classOf a) 16 && ltb (classOf b) 16) (λ f.
       let d = both (ltb (classOf a) 16) (ltb (classOf b) 16) f in
-      cond-in P (not (k .«byte_escapes») && ltb 127 v) (λ g. tt) λ g.
-      cond-in P (not (k .«allow_nul») && eqb v 0) (λ h. tt) λ h.
+      cond-in P (not (byteEscapes k) && ltb 127 v) (λ g. tt) λ g.
+      cond-in P (not (allowNul k) && eqb v 0) (λ h. tt) λ h.
       hex a b (ltb-true (classOf a) 16 (d .0)) (ltb-true (classOf b) 16 (d .1)) g h) λ f. tt) λ e. tt
 
-  of-hex : (s d : List ℕ) (n : ℕ) (h : Hex) → k .unicode ≡ true → take n s ≡ 92 ∷ 117 ∷ 123 ∷ (d ++ (125 ∷ [])) → Digits d h
+  of-hex : (s d : List ℕ) (n : ℕ) (h : Hex) → unicode k ≡ true → take n s ≡ 92 ∷ 117 ∷ 123 ∷ (d ++ (125 ∷ [])) → Digits d h
       → Escapes s (uHex k n h)
   unfolding uScalar
   of-hex s d n (number v) u e (m, l, x) =
-      cond-in (Escapes s) (not (k .«allow_nul») && eqb v 0) (λ f. tt) λ f.
+      cond-in (Escapes s) (not (allowNul k) && eqb v 0) (λ f. tt) λ f.
       cond-in (Escapes s) (isScalar v) (λ g. uni u x l f g e) (λ g. tt)
   of-hex s d n (fault num i) u e x = tt
 
   u-sound : (s : List ℕ) → Escapes (92 ∷ 117 ∷ s) (uEscape k (92 ∷ 117 ∷ s))
   unfolding uEscape uBraced uInner
-  u-sound [] = cond-in (Escapes (92 ∷ 117 ∷ [])) (k .unicode) (λ u. tt) (λ u. tt)
+  u-sound [] = cond-in (Escapes (92 ∷ 117 ∷ [])) (unicode k) (λ u. tt) (λ u. tt)
   u-sound (c ∷ r) =
       let P : Escaped → Type 0 = Escapes (92 ∷ 117 ∷ c ∷ r) in
       let n : ℕ = run (except 125) r in
       let d : List ℕ = take n r in
-      cond-in P (k .unicode) (λ u.
+      cond-in P (unicode k) (λ u.
       cond-eq P c 123 (λ e.
       cond-eq P (n + 3) (suc (suc (suc (length r)))) (λ f. tt) λ f.
       let at = closed r f in
@@ -264,7 +265,7 @@ module _ (k : Allowed) where
       let P : Escaped → Type 0 = Escapes (92 ∷ b ∷ s) in
       cond-in P (ltb (length (92 ∷ b ∷ s)) 2) (λ e. tt) λ e.
       cond-eq P (letterOf b) 0 (λ f.
-      cond-eq P b 48 (λ g. cond-in P (k .«allow_nul») (λ a. subst (λ (x : ℕ). Esc k (92 ∷ x ∷ []) (Byte 0)) (sym g) (nul a)) (λ a. tt)) λ g.
+      cond-eq P b 48 (λ g. cond-in P (allowNul k) (λ a. subst (λ (x : ℕ). Esc k (92 ∷ x ∷ []) (Byte 0)) (sym g) (nul a)) (λ a. tt)) λ g.
       cond-eq P b 120 (λ x. subst (λ (x : ℕ). Escapes (92 ∷ x ∷ s) (xEscape k (92 ∷ x ∷ s))) (sym x) (x-sound s)) λ x.
       cond-eq P b 117 (λ u. subst (λ (x : ℕ). Escapes (92 ∷ x ∷ s) (uEscape k (92 ∷ x ∷ s))) (sym u) (u-sound s)) λ u. tt) λ f.
       letter b f

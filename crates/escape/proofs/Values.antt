@@ -15,6 +15,7 @@ use Rattle.parse.specs.Class.{classOf}
 use Rattle.parse.proofs.Classes.{both}
 use Rattle.utf8.specs.Utf8.{Scalar}
 use Rattle.utf8.specs.Cut.{isBoundary}
+use Rattle.escape.specs.Allows.{unicode, byteEscapes, allowNul}
 use Rattle.escape.specs.declared.Allowed.{Allowed}
 use Rattle.escape.specs.declared.Unescaped.{Unescaped}
 use Rattle.escape.specs.declared.Unescaped.the-variants.{Nothing, Byte, Unicode}
@@ -25,8 +26,8 @@ use Rattle.escape.proofs.Within.{scalar-right}
 -- one only where the kind has Unicode escapes (`unwrap_byte`).
 abbrev pub Unwraps : Allowed → Unescaped → Type 0
 Unwraps k Nothing = ⊥
-Unwraps k (Byte b) = (b < 256) × (k .«byte_escapes» ≡ false → b < 128)
-Unwraps k (Unicode c) = Scalar c × (k .unicode ≡ true)
+Unwraps k (Byte b) = (b < 256) × (byteEscapes k ≡ false → b < 128)
+Unwraps k (Unicode c) = Scalar c × (unicode k ≡ true)
 
 abbrev pub EscapeUnwraps : Allowed → Escaped → Type 0
 EscapeUnwraps k (value u n) = Unwraps k u
@@ -52,9 +53,9 @@ x-unwraps k s =
     cond-in P (isBoundary s 4) (λ e.
     cond-in P (ltb a 16 && ltb b 16) (λ f.
     let d = both (ltb a 16) (ltb b 16) f in
-    cond-in P (not (k .«byte_escapes») && ltb 127 (b + 16 * a)) (λ g. tt) λ g.
-    cond-in P (not (k .«allow_nul») && eqb (b + 16 * a) 0) (λ h. tt) λ h.
-    (omega (arith, ltb-true a 16 (d .0), ltb-true b 16 (d .1)), λ n. low (k .«byte_escapes») (b + 16 * a) n g)) λ f. tt) λ e. tt
+    cond-in P (not (byteEscapes k) && ltb 127 (b + 16 * a)) (λ g. tt) λ g.
+    cond-in P (not (allowNul k) && eqb (b + 16 * a) 0) (λ h. tt) λ h.
+    (omega (arith, ltb-true a 16 (d .0), ltb-true b 16 (d .1)), λ n. low (byteEscapes k) (b + 16 * a) n g)) λ f. tt) λ e. tt
   where
     low : (t : Bool) (v : ℕ) → t ≡ false → (not t && ltb 127 v) ≡ false → v < 128
     low t v n g = omega (arith, ltb-false 127 v (rw n at g))
@@ -65,14 +66,14 @@ u-unwraps k s =
     let P : Escaped → Type 0 = EscapeUnwraps k in
     let n : ℕ = run (except 125) (drop 3 s) in
     let d : List ℕ = take n (drop 3 s) in
-    cond-in P (k .unicode) (λ u.
+    cond-in P (unicode k) (λ u.
     cond-eq P (getD s 2 0) 123 (λ e.
     cond-eq P (n + 3) (length s) (λ f. tt) λ f.
     cond-in P (badStart d) (λ g. tt) λ g. of-hex u (length d + 4) (hexFrom 0 0 0 d)) λ e. tt) λ u. tt
   where
-    of-hex : k .unicode ≡ true → (n : ℕ) (h : Hex) → EscapeUnwraps k (uHex k n h)
+    of-hex : unicode k ≡ true → (n : ℕ) (h : Hex) → EscapeUnwraps k (uHex k n h)
     of-hex u n (number v) =
-        cond-in (EscapeUnwraps k) (not (k .«allow_nul») && eqb v 0) (λ f. tt) λ f.
+        cond-in (EscapeUnwraps k) (not (allowNul k) && eqb v 0) (λ f. tt) λ f.
         cond-in (EscapeUnwraps k) (isScalar v) (λ g. (scalar-right v .0 g, u)) (λ g. tt)
     of-hex u n (fault num i) = tt
 
@@ -84,6 +85,6 @@ escape-unwraps k s =
     let b : ℕ = getD s 1 0 in
     cond-lt P (length s) 2 (λ h. tt) λ h.
     cond-eq P (letterOf b) 0 (λ f.
-    cond-eq P b 48 (λ g. cond-in P (k .«allow_nul») (λ a. (omega arith, λ n. omega arith)) (λ a. tt)) λ g.
+    cond-eq P b 48 (λ g. cond-in P (allowNul k) (λ a. (omega arith, λ n. omega arith)) (λ a. tt)) λ g.
     cond-eq P b 120 (λ x. x-unwraps k s) λ x.
     cond-eq P b 117 (λ u. u-unwraps k s) λ u. tt) λ f. (omega (arith, letter-small b), λ n. letter-small b)

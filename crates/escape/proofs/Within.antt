@@ -18,6 +18,7 @@ use Rattle.parse.specs.Class.{classOf}
 use Rattle.utf8.specs.Utf8.{Scalar}
 use Rattle.utf8.specs.Cut.{isBoundary}
 use Rattle.utf8.proofs.Laws.{encode-length}
+use Rattle.escape.specs.Allows.{unicode, byteEscapes, allowNul}
 use Rattle.escape.specs.declared.Allowed.{Allowed}
 use Rattle.escape.specs.declared.Unescaped.{Unescaped}
 use Rattle.escape.specs.Escape.{Escaped, value, bad, bytesOf, Valid, letterOf, xByte, xEscape, Hex, number, fault, hexFrom, isScalar, uScalar, badStart, uHex, uInner, uBraced, uEscape, escapeBy, escapeOf}
@@ -59,14 +60,14 @@ x-in k s =
     cond-in P (isBoundary s 4) (λ e.
     let h = boundary-in s 4 e in
     cond-in P (ltb (classOf (getD s 2 0)) 16 && ltb (classOf (getD s 3 0)) 16) (λ f.
-    cond-in P (not (k .«byte_escapes») && ltb 127 v) (λ g p. omega arith) λ g.
-    cond-in P (not (k .«allow_nul») && eqb v 0) (λ g p. omega arith) λ g. (omega arith, h, omega arith, tt))
+    cond-in P (not (byteEscapes k) && ltb 127 v) (λ g p. omega arith) λ g.
+    cond-in P (not (allowNul k) && eqb v 0) (λ g p. omega arith) λ g. (omega arith, h, omega arith, tt))
     λ f p. omega arith) λ e p. omega arith
 
 u-scalar-in : (k : Allowed) (n v m : ℕ) → 4 < n → n ≤ m → EscapeIn m (uScalar k n v)
 unfolding uScalar
 u-scalar-in k n v m h l =
-    cond-in (EscapeIn m) (not (k .«allow_nul») && eqb v 0) (λ e p. omega arith) λ e.
+    cond-in (EscapeIn m) (not (allowNul k) && eqb v 0) (λ e p. omega arith) λ e.
     cond-in (EscapeIn m) (isScalar v) (λ f. (omega arith, l, omega (arith, encode-length v), scalar-right v .0 f)) λ f p. omega arith
 
 u-hex-in : (k : Allowed) (n m : ℕ) (h : Hex) → 0 < n → n + 4 ≤ m → FaultBelow n h → EscapeIn m (uHex k (n + 4) h)
@@ -88,7 +89,7 @@ unfolding uEscape uBraced
 u-in k s h =
     let P : Escaped → Type 0 = EscapeIn (length s) in
     let n : ℕ = run (except 125) (drop 3 s) in
-    cond-in P (k .unicode) (λ e.
+    cond-in P (unicode k) (λ e.
     cond-eq P (getD s 2 0) 123 (λ f.
     let three = brace-there s f in
     cond-eq P (n + 3) (length s) (λ g p. omega arith) λ g.
@@ -103,7 +104,7 @@ escape-in k s =
     let b : ℕ = getD s 1 0 in
     cond-lt P (length s) 2 (λ h p. omega arith) λ h.
     cond-eq P (letterOf b) 0 (λ f.
-    cond-eq P b 48 (λ g. cond-in P (k .«allow_nul») (λ a. (omega arith, h, omega arith, tt)) (λ a p. omega arith)) λ g.
+    cond-eq P b 48 (λ g. cond-in P (allowNul k) (λ a. (omega arith, h, omega arith, tt)) (λ a p. omega arith)) λ g.
     cond-eq P b 120 (λ x. x-in k s) λ x.
     cond-eq P b 117 (λ u. u-in k s h) λ u p. omega arith) λ f. (omega arith, h, omega arith, tt)
 

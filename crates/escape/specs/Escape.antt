@@ -13,6 +13,7 @@ use Rattle.scan.specs.Sets.{except}
 use Rattle.parse.specs.Class.{classOf}
 use Rattle.utf8.specs.Utf8.{encode, Scalar}
 use Rattle.utf8.specs.Cut.{isBoundary}
+use Rattle.escape.specs.Allows.{unicode, byteEscapes, allowNul}
 use Rattle.escape.specs.declared.Allowed.{Allowed}
 use Rattle.escape.specs.declared.Unescaped.{Unescaped}
 use Rattle.escape.specs.declared.Unescaped.the-variants.{Nothing, Byte, Unicode}
@@ -62,8 +63,8 @@ letterOf b =
 -- a value above 7F where the kind has no byte escapes is 11, then 0 where it has no NUL is 35
 unfoldable pub xByte : Allowed → ℕ → Escaped
 xByte k v =
-    cond (not (k .«byte_escapes») && ltb 127 v) (bad 11 (between 0 4))
-    (cond (not (k .«allow_nul») && eqb v 0) (bad 35 (between 0 4))
+    cond (not (byteEscapes k) && ltb 127 v) (bad 11 (between 0 4))
+    (cond (not (allowNul k) && eqb v 0) (bad 35 (between 0 4))
     (value (Byte v) 4))
 
 -- 01, Escapes: "`\x` wants two bytes that end on a character boundary, else 9 to the end of what it was given"; a byte that is no hex
@@ -105,7 +106,7 @@ isScalar v = ltb v 0xD800 || (leb 0xE000 v && ltb v 0x110000)
 -- the end of the arm, for an escape of n bytes: 0 where the kind has no NUL is 35, then no scalar value is 17
 unfoldable pub uScalar : Allowed → ℕ → ℕ → Escaped
 uScalar k n v =
-    cond (not (k .«allow_nul») && eqb v 0) (bad 35 (between 0 n))
+    cond (not (allowNul k) && eqb v 0) (bad 35 (between 0 n))
     (cond (isScalar v) (value (Unicode v) n) (bad 17 (between 0 n)))
 
 -- a digit's fault spans that byte; the digits stand behind three bytes
@@ -131,7 +132,7 @@ uBraced k s n =
 -- the arm for `u`: first where the kind has no Unicode escapes (12), then no brace (14), then what stands behind it
 unfoldable pub uEscape : Allowed → List ℕ → Escaped
 uEscape k s =
-    cond (k .unicode)
+    cond (unicode k)
     (cond (eqb (getD s 2 0) 123)
     (uBraced k s (run (except 125) (drop 3 s)))
     (bad 14 (between 0 2)))
@@ -143,7 +144,7 @@ uEscape k s =
 unfoldable pub escapeBy : Allowed → ℕ → List ℕ → Escaped
 escapeBy k b s =
     cond (eqb (letterOf b) 0)
-    (cond (eqb b 48) (cond (k .«allow_nul») (value (Byte 0) 2) (bad 35 (between 0 2)))
+    (cond (eqb b 48) (cond (allowNul k) (value (Byte 0) 2) (bad 35 (between 0 2)))
     (cond (eqb b 120) (xEscape k s)
     (cond (eqb b 117) (uEscape k s)
     (bad 8 (between 0 2)))))

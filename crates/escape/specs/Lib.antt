@@ -1,3 +1,4 @@
+pub mod Allows
 pub mod Escape
 pub mod Pieces
 pub mod Code

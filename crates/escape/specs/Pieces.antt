@@ -8,6 +8,7 @@ use lib.Dec.{eqb, ltb}
 use Rattle.scan.specs.Run.{All}
 use Rattle.scan.specs.Sets.{only}
 use Rattle.parse.specs.Class.{classOf}
+use Rattle.escape.specs.Allows.{unicode, byteEscapes, allowNul}
 use Rattle.escape.specs.Escape.{letterOf, isScalar}
 use Rattle.escape.specs.declared.Allowed.{Allowed}
 use Rattle.escape.specs.declared.Unescaped.{Unescaped}
@@ -22,11 +23,11 @@ pub data Hexes : ℕ → List ℕ → ℕ → Type 0 where
 -- an escape and its value: one letter, `\0`, `\x` with two digits, `\u{}` with one to six digits of a scalar value
 pub data Esc (k : Allowed) : List ℕ → Unescaped → Type 0 where
   letter : (b : ℕ) → (letterOf b ≡ 0 → ⊥) → Esc k (92 ∷ b ∷ []) (Byte (letterOf b))
-  nul : k .«allow_nul» ≡ true → Esc k (92 ∷ 48 ∷ []) (Byte 0)
+  nul : allowNul k ≡ true → Esc k (92 ∷ 48 ∷ []) (Byte 0)
   hex : (a b : ℕ) → classOf a < 16 → classOf b < 16
-      → (not (k .«byte_escapes») && ltb 127 (classOf b + 16 * classOf a)) ≡ false
-      → (not (k .«allow_nul») && eqb (classOf b + 16 * classOf a) 0) ≡ false
+      → (not (byteEscapes k) && ltb 127 (classOf b + 16 * classOf a)) ≡ false
+      → (not (allowNul k) && eqb (classOf b + 16 * classOf a) 0) ≡ false
       → Esc k (92 ∷ 120 ∷ a ∷ b ∷ []) (Byte (classOf b + 16 * classOf a))
-  uni : {n : ℕ} {d t : List ℕ} {v : ℕ} → k .unicode ≡ true → Hexes n d v → n ≤ 6
-      → (not (k .«allow_nul») && eqb v 0) ≡ false → isScalar v ≡ true
+  uni : {n : ℕ} {d t : List ℕ} {v : ℕ} → unicode k ≡ true → Hexes n d v → n ≤ 6
+      → (not (allowNul k) && eqb v 0) ≡ false → isScalar v ≡ true
       → t ≡ 92 ∷ 117 ∷ 123 ∷ (d ++ (125 ∷ [])) → Esc k t (Unicode v)

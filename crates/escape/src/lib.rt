@@ -8,14 +8,50 @@ ghost use mathlib.Core.Bool.{not, _&&_};
 ghost use Prim.Native.Nat.{_+_, _≤_, _<_};
 ghost use lib.ListN.{length};
 ghost use Rattle.buffer.specs.Buffer.{Wrote};
+ghost use Rattle.escape.specs.Allows.{unicode, byteEscapes, allowNul};
 ghost use Rattle.escape.specs.Code.{pieceCode, escapeCode, codedLen, codedValue};
 ghost use Rattle.escape.specs.Escape.{bytesOf, Valid, escapedOf, letterOf, xByte, xEscape, hexOf, hexFrom, isScalar, uScalar, badStart, uInner, uEscape, escapeOf};
 
-// What a kind of literal allows: Unicode escapes and non-ASCII characters, `\x80` to `\xff`, and NUL.
-pub struct Allowed {
-    pub unicode: bool,
-    pub byte_escapes: bool,
-    pub allow_nul: bool,
+// What a kind of literal allows: as text (chars and strings), as bytes, as a C string.
+pub enum Allowed {
+    Text,
+    Bytes,
+    C,
+}
+
+impl Allowed {
+    // Unicode escapes and non-ASCII characters.
+    pub fn unicode(self) -> bool
+        ensures { λ r. ⌜ r ≡ unicode self ⌝ }
+    {
+        match self {
+            Allowed::Text => true,
+            Allowed::Bytes => false,
+            Allowed::C => true,
+        }
+    }
+
+    // `\x80` to `\xff`.
+    pub fn byte_escapes(self) -> bool
+        ensures { λ r. ⌜ r ≡ byteEscapes self ⌝ }
+    {
+        match self {
+            Allowed::Text => false,
+            Allowed::Bytes => true,
+            Allowed::C => true,
+        }
+    }
+
+    // NUL.
+    pub fn allow_nul(self) -> bool
+        ensures { λ r. ⌜ r ≡ allowNul self ⌝ }
+    {
+        match self {
+            Allowed::Text => true,
+            Allowed::Bytes => true,
+            Allowed::C => false,
+        }
+    }
 }
 
 // What an escape or a byte of a body stands for. A dropped line break stands for nothing.
@@ -69,10 +105,10 @@ fn letter(b: u8) -> u8
 fn x_byte(v: u8, k: Allowed) -> Escape
     ensures { λ r. ⌜ escapedOf r ≡ xByte k v ⌝ }
 {
-    if bars(k.byte_escapes, 127 < v) {
+    if bars(k.byte_escapes(), 127 < v) {
         return bad(ParseErrorKind::NonAsciiXEscape, 4);
     }
-    if bars(k.allow_nul, v == 0) {
+    if bars(k.allow_nul(), v == 0) {
         return bad(ParseErrorKind::DisallowedNulEscape, 4);
     }
     Escape::Value(Unescaped::Byte(v), 4)
@@ -138,7 +174,7 @@ fn is_scalar(v: u32) -> bool
 fn u_scalar(v: u32, n: usize, k: Allowed) -> Escape
     ensures { λ r. ⌜ escapedOf r ≡ uScalar k n v ⌝ }
 {
-    if bars(k.allow_nul, v == 0) {
+    if bars(k.allow_nul(), v == 0) {
         return bad(ParseErrorKind::DisallowedNulEscape, n);
     }
     if is_scalar(v) {
@@ -178,7 +214,7 @@ fn u_inner(d: &[u8], k: Allowed) -> Escape
 fn u_escape(s: &[u8], k: Allowed) -> Escape
     ensures { λ r. ⌜ escapedOf r ≡ uEscape k (now (s .entry)) ⌝ }
 {
-    if !k.unicode {
+    if !k.unicode() {
         return bad(ParseErrorKind::UnicodeEscapeInByteLiteral, 2);
     }
     if scan::byte_at(s, 2) != b'{' {
@@ -205,7 +241,7 @@ pub fn unescape(s: &[u8], k: Allowed) -> Escape
         return Escape::Value(Unescaped::Byte(l), 2);
     }
     if b == b'0' {
-        if k.allow_nul {
+        if k.allow_nul() {
             return Escape::Value(Unescaped::Byte(0), 2);
         }
         return bad(ParseErrorKind::DisallowedNulEscape, 2);
@@ -247,12 +283,12 @@ fn x_code(s: &[u8], k: Allowed) -> u64
     }
     let v = b + 16 * a;
     if 127 < v {
-        if !k.byte_escapes {
+        if !k.byte_escapes() {
             return 0;
         }
     }
     if v == 0 {
-        if !k.allow_nul {
+        if !k.allow_nul() {
             return 0;
         }
     }
@@ -264,7 +300,7 @@ fn scalar_code(v: u32, n: usize, k: Allowed) -> u64
     requires { ⌜ n < 4294967296 ⌝ }
     ensures { λ r. ⌜ r ≡ escapeCode (uScalar k n v) ⌝ }
 {
-    if bars(k.allow_nul, v == 0) {
+    if bars(k.allow_nul(), v == 0) {
         return 0;
     }
     if !is_scalar(v) {
@@ -277,7 +313,7 @@ fn u_code(s: &[u8], k: Allowed) -> u64
     requires { ⌜ length (now s) < 4294967296 ⌝ }
     ensures { λ r. ⌜ r ≡ escapeCode (uEscape k (now (s .entry))) ⌝ }
 {
-    if !k.unicode {
+    if !k.unicode() {
         return 0;
     }
     if scan::byte_at(s, 2) != b'{' {
@@ -331,7 +367,7 @@ pub fn code(s: &[u8], k: Allowed) -> u64
         return u_code(s, k);
     }
     if b == b'0' {
-        if k.allow_nul {
+        if k.allow_nul() {
             return byte_code(2, 0);
         }
     }

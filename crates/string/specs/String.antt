@@ -1,7 +1,7 @@
 -- What litrs's `StringLit::parse`, `ByteStringLit::parse` and `CStringLit::parse` answer (01, Quoted kinds), in their order of tests.
 -- Assumes nothing.
 use Prim.Native.Nat.{ℕ, _+_}
-use mathlib.Core.Bool.{true, false, cond}
+use mathlib.Core.Bool.{cond}
 use mathlib.Core.List.{List, [], _∷_}
 use lib.Dec.{eqb}
 use lib.ListN.{getD, drop}
@@ -9,6 +9,7 @@ use Rattle.err.specs.Outcome.{Outcome, refused, accepted, none, between, decode
 use Rattle.scan.specs.Run.{run}
 use Rattle.scan.specs.Sets.{only}
 use Rattle.escape.specs.declared.Allowed.{Allowed}
+use Rattle.escape.specs.declared.Allowed.the-variants as allowed
 use Rattle.body.specs.Body.{body, rawBody}
 use Rattle.body.specs.Quote.{Quote, quoteOf, stringOf, rawOf}
 use Rattle.body.specs.Quote as quote
@@ -32,9 +33,9 @@ offsetOf C = 2
 
 -- the arguments that litrs gives `unescape_string` and `scan_raw_string`: a byte string has no Unicode, a C string no NUL
 abbrev pub allowedIn : Kind → Allowed
-allowedIn Text = record { unicode = true; «byte_escapes» = false; «allow_nul» = true }
-allowedIn Bytes = record { unicode = false; «byte_escapes» = true; «allow_nul» = true }
-allowedIn C = record { unicode = true; «byte_escapes» = true; «allow_nul» = false }
+allowedIn Text = allowed.Text
+allowedIn Bytes = allowed.Bytes
+allowedIn C = allowed.C
 
 -- `"` or `r`
 unfoldable pub openingBy : ℕ → Opening

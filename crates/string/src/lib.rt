@@ -37,21 +37,9 @@ impl Kind {
         ensures { λ r. ⌜ r ≡ allowedIn self ⌝ }
     {
         match self {
-            Kind::Text => Allowed {
-                unicode: true,
-                byte_escapes: false,
-                allow_nul: true,
-            },
-            Kind::Bytes => Allowed {
-                unicode: false,
-                byte_escapes: true,
-                allow_nul: true,
-            },
-            Kind::C => Allowed {
-                unicode: true,
-                byte_escapes: true,
-                allow_nul: false,
-            },
+            Kind::Text => Allowed::Text,
+            Kind::Bytes => Allowed::Bytes,
+            Kind::C => Allowed::C,
         }
     }
 

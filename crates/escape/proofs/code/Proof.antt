@@ -48,19 +48,22 @@ returns-4 c =
     c .u-code .ensures
     ∙ ap escapeCode (laws.is-u _ _ (b .before .before .before .if1 .left) (no-letter b) (λ e. omega arith) (c .before .before .if3 .left) (c .before .if4 .taken))
 
+allow-nul-requires : tie.Need-allow-nul-requires
+allow-nul-requires c κs = search needs
+
 byte-code-requires-2 : tie.Need-byte-code-requires-2
 byte-code-requires-2 c κs = search needs
 
 returns-5 : tie.Need-returns-5
 returns-5 c =
-    let b = c .before .before .before .before .before in
+    let b = c .before .before .before .before .before .before in
     c .byte-code2 .ensures
-    ∙ ap escapeCode (laws.nul _ _ (b .before .before .before .if1 .left) (no-letter b) (c .before .before .if5 .taken) (c .before .if6 .taken))
+    ∙ ap escapeCode (laws.nul _ _ (b .before .before .before .if1 .left) (no-letter b) (c .before .before .before .if5 .taken) (sym (c .before .before .allow-nul .ensures) ∙ c .before .if6 .taken))
 
 returns-6 : tie.Need-returns-6
 returns-6 c =
-    let b = c .before .before .before .before in
-    ap escapeCode (laws.nul-barred _ _ (b .before .before .before .if1 .left) (no-letter b) (c .before .if5 .taken) (c .if6 .left))
+    let b = c .before .before .before .before .before in
+    ap escapeCode (laws.nul-barred _ _ (b .before .before .before .if1 .left) (no-letter b) (c .before .before .if5 .taken) (sym (c .before .allow-nul .ensures) ∙ c .if6 .left))
 
 returns-7 : tie.Need-returns-7
 returns-7 c =
@@ -80,6 +83,7 @@ code-spec =
     returns-3
     u-code-requires
     returns-4
+    allow-nul-requires
     byte-code-requires-2
     returns-5
     returns-6

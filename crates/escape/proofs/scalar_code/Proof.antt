@@ -1,23 +1,31 @@
 -- `escape::scalar_code` meets its contract.
 -- Assumes nothing.
 use mathlib.Core.Path.{_≡_, sym, _∙_}
-use mathlib.Core.Bool.{true}
+use mathlib.Core.Bool.{true, not, _&&_}
 use native.Mathlib.Omega.{arith}
 use borrow.Author.Needs.{needs}
 use borrow.Author.Tests.{not-true, not-false}
+use lib.Dec.{eqb}
 use Rattle.utf8.proofs.Laws.{scalar-lt}
+use Rattle.escape.specs.Allows.{allowNul}
 use Rattle.escape.specs.Code.{pieceCode}
 use Rattle.escape.specs.Escape.{isScalar, uScalar}
 use Rattle.escape.proofs.Within.{scalar-right}
 use Rattle.escape.proofs.scalar_code.Statement.{statement}
 use Rattle.escape.proofs.scalar_code.Tie as tie
 
+nul : (c : tie.After-bars) → let a = c .before .before .args in c .bars .result ≡ (not (allowNul (a .k)) && eqb (a .v) 0)
+nul c = rw (← c .before .allow-nul .ensures) (c .bars .ensures)
+
+allow-nul-requires : tie.Need-allow-nul-requires
+allow-nul-requires c κs = search needs
+
 bars-requires : tie.Need-bars-requires
 bars-requires c κs = search needs
 
 returns : tie.Need-returns
 unfolding uScalar
-returns c = rw (sym (c .before .bars .ensures) ∙ c .if1 .taken)
+returns c = rw (sym (nul (c .before)) ∙ c .if1 .taken)
 
 is-scalar-requires : tie.Need-is-scalar-requires
 is-scalar-requires c κs = search needs
@@ -26,9 +34,9 @@ returns-2 : tie.Need-returns-2
 unfolding uScalar
 returns-2 c =
     let b = c .before .before in
-    rw (sym (b .before .bars .ensures) ∙ b .if1 .left, sym (c .before .is-scalar .ensures) ∙ not-true _ (c .if2 .taken))
+    rw (sym (nul (b .before)) ∙ b .if1 .left, sym (c .before .is-scalar .ensures) ∙ not-true _ (c .if2 .taken))
 
-scalar : (c : tie.Else2) → isScalar (c .before .before .before .before .args .v) ≡ true
+scalar : (c : tie.Else2) → isScalar (c .before .before .before .before .before .args .v) ≡ true
 scalar c = sym (c .before .is-scalar .ensures) ∙ not-false _ (c .if2 .left)
 
 mul-result : tie.Need-mul-result
@@ -44,12 +52,13 @@ returns-3 : tie.Need-returns-3
 unfolding uScalar pieceCode
 returns-3 c =
     let b = c .before .before in
-    rw (sym (b .before .bars .ensures) ∙ b .if1 .left, scalar c) (omega arith)
+    rw (sym (nul (b .before)) ∙ b .if1 .left, scalar c) (omega arith)
 
 pub scalar-code-spec : {M : Type 1} → statement M
 scalar-code-spec =
     tie.close
     (tie.spec
+    allow-nul-requires
     bars-requires
     returns
     is-scalar-requires

@@ -1,12 +1,14 @@
 -- `escape::u_code` meets its contract.
 -- Assumes nothing.
 use mathlib.Core.Path.{_≡_, sym, ap, _∙_}
+use mathlib.Core.Bool.{true, false}
 use Prim.Native.Nat.{ℕ, _-_, _^_, _≤_, _<_}
 use native.Mathlib.Omega.{arith}
 use borrow.Author.Needs.{needs}
 use borrow.Author.Tests.{not-true, not-false}
 use lib.ListN.{length, getD, drop}
 use Rattle.parse.specs.Class.{classOf}
+use Rattle.escape.specs.Allows.{unicode}
 use Rattle.escape.specs.Code.{escapeCode}
 use Rattle.escape.specs.Escape.{uEscape}
 use Rattle.escape.proofs.Hexes.{small, longer}
@@ -22,6 +24,12 @@ Inv-loop s k v₀ n₀ i₀ v n i =
 
 abbrev μ-loop : tie.MeasureT-loop
 μ-loop s k v₀ n₀ i₀ v n i = length s - i
+
+barred : (c : tie.Then1 Inv-loop μ-loop) → unicode (c .before .before .before .args .k) ≡ false
+barred c = sym (c .before .unicode .ensures) ∙ not-true _ (c .if1 .taken)
+
+allowed : (c : tie.Else1 Inv-loop μ-loop) → unicode (c .before .before .before .args .k) ≡ true
+allowed c = sym (c .before .unicode .ensures) ∙ not-false _ (c .if1 .left)
 
 brace : (c : tie.Else2 Inv-loop μ-loop) → getD (c .before .before .before .before .before .args .s .now) 2 0 ≡ 123
 brace c = sym (c .before .byte-at .ensures) ∙ c .if2 .left
@@ -39,17 +47,20 @@ high c = omega (arith, c .before .class-of .ensures, c .if3 .left)
 bound : (c : tie.Else4 Inv-loop μ-loop) → c .before .before .before .before .before .loop .v < 1048576
 bound c = let i = c .before .before .before .before .before .loop .inv in small _ _ (i .1) (c .if4 .left) (i .2)
 
+unicode-requires : tie.Need-unicode-requires Inv-loop μ-loop
+unicode-requires c κs = search needs
+
 returns : tie.Need-returns Inv-loop μ-loop
-returns c = ap escapeCode (laws.u-barred _ _ (not-true _ (c .if1 .taken)))
+returns c = ap escapeCode (laws.u-barred _ _ (barred c))
 
 byte-at-requires : tie.Need-byte-at-requires Inv-loop μ-loop
 byte-at-requires c κs = search needs
 
 returns-2 : tie.Need-returns-2 Inv-loop μ-loop
-returns-2 c = ap escapeCode (laws.u-no-brace _ _ (not-false _ (c .before .before .if1 .left)) (λ e. c .if2 .taken (c .before .byte-at .ensures ∙ e)))
+returns-2 c = ap escapeCode (laws.u-no-brace _ _ (allowed (c .before .before)) (λ e. c .if2 .taken (c .before .byte-at .ensures ∙ e)))
 
 loop-holds : tie.Need-loop-holds Inv-loop μ-loop
-loop-holds c = let s = c .before .before .before .before .before .args .s .now in (laws.brace-there s (brace c), omega arith, omega arith, braced.digits-code _ _ (not-false _ (c .before .before .if1 .left)) (brace c))
+loop-holds c = let s = c .before .before .before .before .before .args .s .now in (laws.brace-there s (brace c), omega arith, omega arith, braced.digits-code _ _ (allowed (c .before .before)) (brace c))
 
 shared-slice-read-b : tie.Need-shared-slice-read-b Inv-loop μ-loop
 shared-slice-read-b c = search needs
@@ -134,6 +145,7 @@ u-code-spec =
     (tie.spec
     Inv-loop
     μ-loop
+    unicode-requires
     returns
     byte-at-requires
     returns-2

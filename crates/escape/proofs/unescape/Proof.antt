@@ -26,14 +26,17 @@ letter-requires c κs = search needs
 returns-2 : tie.Need-returns-2
 returns-2 c = laws.one-letter _ _ (c .before .before .before .if1 .left) _ (c .before .letter .ensures) (c .if2 .taken)
 
+allow-nul-requires : tie.Need-allow-nul-requires
+allow-nul-requires c κs = search needs
+
 returns-3 : tie.Need-returns-3
-returns-3 c = laws.nul _ _ (c .before .before .before .before .before .if1 .left) (no-letter (c .before .before)) (c .before .if3 .taken) (c .if4 .taken)
+returns-3 c = laws.nul _ _ (c .before .before .before .before .before .before .if1 .left) (no-letter (c .before .before .before)) (c .before .before .if3 .taken) (sym (c .before .allow-nul .ensures) ∙ c .if4 .taken)
 
 bad-requires-2 : tie.Need-bad-requires-2
 bad-requires-2 c κs = search needs
 
 returns-4 : tie.Need-returns-4
-returns-4 c = ap escapedOf (c .bad2 .ensures) ∙ laws.nul-barred _ _ (c .before .before .before .before .before .before .if1 .left) (no-letter (c .before .before .before)) (c .before .before .if3 .taken) (c .before .if4 .left)
+returns-4 c = ap escapedOf (c .bad2 .ensures) ∙ laws.nul-barred _ _ (c .before .before .before .before .before .before .before .if1 .left) (no-letter (c .before .before .before .before)) (c .before .before .before .if3 .taken) (sym (c .before .before .allow-nul .ensures) ∙ c .before .if4 .left)
 
 x-escape-requires : tie.Need-x-escape-requires
 x-escape-requires c κs = search needs
@@ -62,6 +65,7 @@ unescape-spec =
     shared-slice-read-b
     letter-requires
     returns-2
+    allow-nul-requires
     returns-3
     bad-requires-2
     returns-4

@@ -12,6 +12,7 @@ use lib.ListN.{getD}
 use Rattle.parse.specs.Sets.{hexDigitOf}
 use Rattle.parse.specs.declared.HexDigit.the-variants.{Value}
 use Rattle.utf8.specs.Cut.{isBoundary}
+use Rattle.escape.specs.Allows.{byteEscapes, allowNul}
 use Rattle.escape.specs.Code.{escapeCode}
 use Rattle.escape.specs.Escape.{xByte, xEscape}
 use Rattle.escape.proofs.Hexes.{hex-value, no-value}
@@ -38,11 +39,11 @@ read c =
     laws.x-value _ _ (there (f .before .before .before)) _ (first f) _ (second c)
 
 -- no test has refused their number
-not-high : (c : tie.Joined5) → (not (c .before .before .before .before .before .before .before .before .before .before .before .args .k .«byte_escapes») && ltb 127 (v (c .before))) ≡ false
-not-high c = ⊎-elim (λ w. rw (w .2 .left)) (λ w. rw (le-ltb _ _ (w .left), and-false)) (c .if5 .came)
+not-high : (c : tie.Joined5) → (not (byteEscapes (c .before .before .before .before .before .before .before .before .before .before .before .args .k)) && ltb 127 (v (c .before))) ≡ false
+not-high c = ⊎-elim (λ w. rw (sym (w .1 .ensures) ∙ not-false _ (w .2 .left))) (λ w. rw (le-ltb _ _ (w .left), and-false)) (c .if5 .came)
 
-not-nul : (c : tie.Joined7) → (not (c .before .before .before .before .before .before .before .before .before .before .before .before .args .k .«allow_nul») && eqb (v (c .before .before)) 0) ≡ false
-not-nul c = ⊎-elim (λ w. rw (w .2 .left)) (λ w. rw (ne-eqb _ _ (w .left), and-false)) (c .if7 .came)
+not-nul : (c : tie.Joined7) → (not (allowNul (c .before .before .before .before .before .before .before .before .before .before .before .before .args .k)) && eqb (v (c .before .before)) 0) ≡ false
+not-nul c = ⊎-elim (λ w. rw (sym (w .1 .ensures) ∙ not-false _ (w .2 .left))) (λ w. rw (ne-eqb _ _ (w .left), and-false)) (c .if7 .came)
 
 returns : tie.Need-returns
 returns c = ap escapeCode (laws.x-short _ _ (c .if1 .taken))
@@ -79,13 +80,19 @@ mul-v c = search needs
 add-v : tie.Need-add-v
 add-v c = search needs
 
+byte-escapes-requires : tie.Need-byte-escapes-requires
+byte-escapes-requires c κs = search needs
+
 returns-5 : tie.Need-returns-5
 unfolding xByte
-returns-5 c = rw (← read (c .before .before .before), c .if6 .taken, lt-ltb _ _ (c .before .before .if5 .taken))
+returns-5 c = rw (← read (c .before .before .before), sym (c .before .byte-escapes .ensures) ∙ not-true _ (c .if6 .taken), lt-ltb _ _ (c .before .before .if5 .taken))
+
+allow-nul-requires : tie.Need-allow-nul-requires
+allow-nul-requires c κs = search needs
 
 returns-6 : tie.Need-returns-6
 unfolding xByte
-returns-6 c = let j = c .before .before .before in rw (← read (j .before), not-high j, c .if8 .taken, eq-eqb _ _ (c .before .before .if7 .taken))
+returns-6 c = let j = c .before .before .before in rw (← read (j .before), not-high j, sym (c .before .allow-nul .ensures) ∙ not-true _ (c .if8 .taken), eq-eqb _ _ (c .before .before .if7 .taken))
 
 byte-code-requires : tie.Need-byte-code-requires
 byte-code-requires c κs = search needs
@@ -109,7 +116,9 @@ x-code-spec =
     returns-4
     mul-v
     add-v
+    byte-escapes-requires
     returns-5
+    allow-nul-requires
     returns-6
     byte-code-requires
     returns-7)
