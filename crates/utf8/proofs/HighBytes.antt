@@ -16,17 +16,17 @@ highest-more m s i h = rw (drop-cons s i 0, add-one)
 pub highest-end : (m : ℕ) (s : List ℕ) (i : ℕ) → length s ≤ i → highestFrom m (drop i s) ≡ m
 highest-end m s i h = rw (drop-of-length-le s h)
 
-larger-left : (a b : ℕ) → a ≤ largerOf a b
+pub larger-left : (a b : ℕ) → a ≤ largerOf a b
 larger-left a b = cond-lt (λ (n : ℕ). a ≤ n) a b (λ h. omega arith) (λ h. omega arith)
 
-larger-right : (a b : ℕ) → b ≤ largerOf a b
+pub larger-right : (a b : ℕ) → b ≤ largerOf a b
 larger-right a b = cond-lt (λ (n : ℕ). b ≤ n) a b (λ h. omega arith) (λ h. omega arith)
 
 highest-start : (m : ℕ) (s : List ℕ) → m ≤ highestFrom m s
 highest-start m [] = omega arith
 highest-start m (b ∷ s) = omega (arith, larger-left m b, highest-start (largerOf m b) s)
 
-highest-above : (m : ℕ) (s : List ℕ) (k : ℕ) → k < length s → getD s k 0 ≤ highestFrom m s
+pub highest-above : (m : ℕ) (s : List ℕ) (k : ℕ) → k < length s → getD s k 0 ≤ highestFrom m s
 highest-above m [] k h = absurd (omega arith)
 highest-above m (b ∷ s) zero h = omega (arith, larger-right m b, highest-start (largerOf m b) s)
 highest-above m (b ∷ s) (suc k) h = highest-above (largerOf m b) s k (omega arith)

@@ -8,3 +8,5 @@ pub mod Cuts
 pub mod Aligned
 pub mod Examples
 pub mod HighBytes
+pub mod Clean
+pub mod Faults

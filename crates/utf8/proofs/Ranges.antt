@@ -20,15 +20,15 @@ length-one : (a : ℕ) → a < 0x80 → 1 ≡ lengthFrom a
 unfolding lengthFrom
 length-one a h = simp (lt-ltb a 0x80 h)
 
-length-two : (a : ℕ) → 0xC0 ≤ a → a < 0xE0 → 2 ≡ lengthFrom a
+pub length-two : (a : ℕ) → 0xC0 ≤ a → a < 0xE0 → 2 ≡ lengthFrom a
 unfolding lengthFrom
 length-two a g h = simp (le-ltb a 0x80 (omega arith), le-ltb a 0xC0 g, lt-ltb a 0xE0 h)
 
-length-three : (a : ℕ) → 0xE0 ≤ a → a < 0xF0 → 3 ≡ lengthFrom a
+pub length-three : (a : ℕ) → 0xE0 ≤ a → a < 0xF0 → 3 ≡ lengthFrom a
 unfolding lengthFrom
 length-three a g h = simp (le-ltb a 0x80 (omega arith), le-ltb a 0xC0 (omega arith), le-ltb a 0xE0 g, lt-ltb a 0xF0 h)
 
-length-four : (a : ℕ) → 0xF0 ≤ a → a < 0xF8 → 4 ≡ lengthFrom a
+pub length-four : (a : ℕ) → 0xF0 ≤ a → a < 0xF8 → 4 ≡ lengthFrom a
 unfolding lengthFrom
 length-four a g h =
     simp (le-ltb a 0x80 (omega arith), le-ltb a 0xC0 (omega arith), le-ltb a 0xE0 (omega arith), le-ltb a 0xF0 g, lt-ltb a 0xF8 h)
@@ -50,7 +50,7 @@ overlong2 a b g h =
     let P : Decoded → Type 0 = λ d. d ≡ Bad in
     cond-eq P (b / 64) 2 (λ e. cond-lt P (a % 32 * 64 + b % 64) 0x80 (λ k. refl) (λ k. absurd (omega arith))) (λ e. refl)
 
-range2 : (a b : ℕ) → 0xC2 ≤ a → a < 0xE0 → tail b ≡ true → lenOf (decode2 a b) ≡ 2
+pub range2 : (a b : ℕ) → 0xC2 ≤ a → a < 0xE0 → tail b ≡ true → lenOf (decode2 a b) ≡ 2
 unfolding decode2 tail
 range2 a b g h e = simp (e, le-ltb (a % 32 * 64 + b % 64) 0x80 (omega arith))
 
@@ -144,6 +144,13 @@ module _ (t : List ℕ) (at : ℕ) (within : at < length t) where
   unfolding tail
   len-last g h = ap lenOf (sym (decode-alone t at within g (rw (List·getD-eq-default t 0 h))))
 
+  pub none-above : 0xF4 < getD t at 0 → decode (drop at t) ≡ Bad
+  none-above g =
+      let a = getD t at 0 in
+      by-lt a 0xF8
+      (λ h. decode-four t at 4 within (length-four a (omega arith) h) refl ∙ above4 a _ _ _ (omega arith) h (λ e. absurd (omega arith)))
+      (λ h. decode-none t at 0 within (length-above a h) (λ e. omega arith) (λ e. omega arith) (λ e. omega arith) (λ e. omega arith))
+
 pub pair-at : (t : List ℕ) (at : ℕ) → at + 1 < length t → PairAt t at (getD t at 0) (getD t (at + 1) 0)
 pair-at t at h = record { within = h; first = refl; second = refl }
 
@@ -163,7 +170,4 @@ module _ {t : List ℕ} {at a b : ℕ} (p : PairAt t at a b) where
   is-four g h = rw (p .first, p .second) (decode-four t at 4 (omega arith) (length-four (getD t at 0) (omega arith) (omega arith)) refl)
 
   pub len-above : 0xF4 < a → 0 ≡ lenOf (decode (drop at t))
-  len-above g =
-      ap lenOf (sym (by-lt a 0xF8
-      (λ h. is-four (omega arith) h ∙ above4 a b (getD t (at + 2) 0) (getD t (at + 3) 0) (omega arith) h (λ e. absurd (omega arith)))
-      (λ h. decode-none t at 0 (omega arith) (length-above (getD t at 0) (omega arith)) (λ e. omega arith) (λ e. omega arith) (λ e. omega arith) (λ e. omega arith))))
+  len-above g = ap lenOf (sym (none-above t at (omega arith) (omega arith)))

@@ -63,6 +63,9 @@ isUtf8-end t at h = rw (drop-of-length-le t h) (isUtf8-right [] .1 utf8-nil)
 pub isUtf8-front : (t : List ℕ) (n : ℕ) → ((k : ℕ) → k < n → getD t k 0 < 0x80) → isUtf8 (drop n t) ≡ isUtf8 t
 isUtf8-front t n h = same-test _ _ (utf8-front t n h)
 
+pub isUtf8-ascii : (t : List ℕ) → ((k : ℕ) → k < length t → getD t k 0 < 0x80) → true ≡ isUtf8 t
+isUtf8-ascii t h = sym (isUtf8-end t (length t) (omega arith)) ∙ isUtf8-front t (length t) h
+
 -- a character of n bytes is passed, and ends inside the text; where there is none, the text is not UTF-8 from there
 module _ (t : List ℕ) (at n : ℕ) (is : n ≡ lenOf (decode (drop at t))) where
   pub isUtf8-char : (n ≡ 0 → ⊥) → (0 < n) × (at + n ≤ length t) × (isUtf8 (drop (at + n) t) ≡ isUtf8 (drop at t))

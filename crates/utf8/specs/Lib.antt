@@ -2,3 +2,4 @@ pub mod Utf8
 pub mod Decode
 pub mod Valid
 pub mod Cut
+pub mod Faults

@@ -1,12 +1,13 @@
 // UTF-8, as RFC 3629 has it: lengths, characters, texts.
 ghost use mathlib.Core.Path.{_≡_};
-ghost use Prim.Native.Nat.{ℕ, _≤_, _<_};
-ghost use lib.ListN.{length, getD, drop};
+ghost use Prim.Native.Nat.{ℕ, _-_, _≤_, _<_};
+ghost use lib.ListN.{length, getD, take, drop};
 ghost use Rattle.buffer.specs.Buffer.{Wrote};
 ghost use Rattle.utf8.specs.Utf8.{Scalar, encode};
 ghost use Rattle.utf8.specs.Decode.{lengthFrom, decode2, decode3, decode4, decode, lenOf, PairAt};
 ghost use Rattle.utf8.specs.Valid.{isUtf8, largerOf, highestFrom};
 ghost use Rattle.utf8.specs.Cut.{tail, isBoundary, lastLen};
+ghost use Rattle.utf8.specs.Faults.{bit, leastBehind, mostBehind, faultOf, worstFrom, worstBehind, cleanBehind};
 
 // The character at a place of a text, with its length in bytes, or none.
 pub enum Decoded {
@@ -258,11 +259,134 @@ fn valid_len(text: &[u8], at: usize) -> usize
     four_len(text, at, first, second)
 }
 
-// Whether a text is UTF-8: what is ASCII at the front is passed in blocks, the rest character by character.
-pub fn is_utf8(text: &[u8]) -> bool
+// 1 for a test that holds, 0 for one that does not.
+fn bit(test: bool) -> u8
+    ensures { λ r. ⌜ r ≡ bit test ⌝ }
+{
+    if test { 1 } else { 0 }
+}
+
+// The least byte that may stand behind a byte.
+fn least_behind(a: u8) -> u8
+    ensures { λ r. ⌜ r ≡ leastBehind a ⌝ }
+{
+    if a == 0xE0 {
+        return 0xA0;
+    }
+    if a == 0xF0 {
+        return 0x90;
+    }
+    0
+}
+
+// The largest byte that may stand behind a byte.
+fn most_behind(a: u8) -> u8
+    ensures { λ r. ⌜ r ≡ mostBehind a ⌝ }
+{
+    if a == 0xED {
+        return 0x9F;
+    }
+    if a == 0xF4 {
+        return 0x8F;
+    }
+    0xFF
+}
+
+// How many rules a byte breaks behind the three before it. Every test is made, so that the compiler makes vectors of `worst_fault`.
+fn fault(c: u8, b: u8, a: u8, x: u8) -> u8
+    ensures { λ r. ⌜ r ≡ faultOf c b a x ⌝ }
+{
+    let wanted = bit(0xC0 <= a) + bit(0xE0 <= b) + bit(0xF0 <= c);
+    let odd = bit((wanted != 0) != is_tail(x));
+    let never = bit(x / 2 == 0x60) + bit(0xF4 < x);
+    odd + never + bit(x < least_behind(a)) + bit(most_behind(a) < x)
+}
+
+// The most rules that a byte behind the first three breaks.
+fn worst_fault(s: &[u8]) -> u8
+    ensures { λ r. ⌜ r ≡ worstBehind (now (s .entry)) ⌝ }
+{
+    let mut m: u8 = 0;
+    let mut i = 3;
+    while i < s.len() {
+        m = larger(m, fault(s[i - 3], s[i - 2], s[i - 1], s[i]));
+        i += 1;
+    }
+    m
+}
+
+// The same for the first three bytes of a text, before which no bytes stand.
+fn front_fault(text: &[u8]) -> u8
+    requires { ⌜ 3 ≤ length (now text) ⌝ }
+    ensures { λ r. ⌜ r ≡ worstFrom 0 0 0 0 (take 3 (now (text .entry))) ⌝ }
+{
+    let front: [u8; 6] = [0, 0, 0, text[0], text[1], text[2]];
+    worst_fault(&front)
+}
+
+// Whether no tail is wanted behind the last three bytes of a text.
+fn ends_clean(text: &[u8]) -> bool
+    requires { ⌜ 3 ≤ length (now text) ⌝ }
+    ensures { λ r. ⌜ r ≡ cleanBehind (drop (length (now (text .entry)) - 3) (now (text .entry))) ⌝ }
+{
+    if 0xC0 <= text[text.len() - 1] {
+        return false;
+    }
+    if 0xE0 <= text[text.len() - 2] {
+        return false;
+    }
+    text[text.len() - 3] < 0xF0
+}
+
+// Whether no byte from an offset on is at fault, and no tail is wanted at the end: by blocks, then the rest at once.
+fn clean_from(text: &[u8], from: usize) -> bool
+    requires { ⌜ (3 ≤ from) × (from ≤ length (now text)) ⌝ }
+    ensures { λ r. ⌜ r ≡ cleanBehind (drop (from - 3) (now (text .entry))) ⌝ }
+{
+    let mut at = from;
+    while 256 <= text.len() - at {
+        let a = at - 3;
+        let e = at + 256;
+        if worst_fault(&text[a..e]) != 0 {
+            return false;
+        }
+        at = e;
+    }
+    let a = at - 3;
+    if worst_fault(&text[a..]) != 0 {
+        return false;
+    }
+    ends_clean(text)
+}
+
+// Whether a long text is UTF-8: what is ASCII at the front is passed in blocks, then every byte is held against the three before it.
+fn long_utf8(text: &[u8]) -> bool
+    requires { ⌜ 3 ≤ length (now text) ⌝ }
     ensures { λ r. ⌜ r ≡ isUtf8 (now (text .entry)) ⌝ }
 {
-    let mut at = ascii_front(text);
+    let at = ascii_front(text);
+    if at == text.len() {
+        return true;
+    }
+    if 3 <= at {
+        return clean_from(text, at);
+    }
+    if front_fault(text) != 0 {
+        return false;
+    }
+    clean_from(text, 3)
+}
+
+// Whether a short text is UTF-8, character by character where it is not ASCII.
+fn short_utf8(text: &[u8]) -> bool
+    ensures { λ r. ⌜ r ≡ isUtf8 (now (text .entry)) ⌝ }
+{
+    if 8 <= text.len() {
+        if highest(text) < 0x80 {
+            return true;
+        }
+    }
+    let mut at = 0;
     while at < text.len() {
         let n = valid_len(text, at);
         if n == 0 {
@@ -271,6 +395,16 @@ pub fn is_utf8(text: &[u8]) -> bool
         at += n;
     }
     true
+}
+
+// Whether a text is UTF-8.
+pub fn is_utf8(text: &[u8]) -> bool
+    ensures { λ r. ⌜ r ≡ isUtf8 (now (text .entry)) ⌝ }
+{
+    if text.len() < 128 {
+        return short_utf8(text);
+    }
+    long_utf8(text)
 }
 
 // How many bytes a character has.

@@ -1,4 +1,4 @@
--- `utf8::is_utf8` meets its contract.
+-- `utf8::short_utf8` meets its contract.
 -- Assumes nothing.
 use mathlib.Core.Path.{_≡_, sym, _∙_}
 use Prim.Native.Nat.{_+_, _-_, _≤_, _<_}
@@ -6,9 +6,10 @@ use native.Mathlib.Omega.{arith}
 use lib.ListN.{length, drop}
 use borrow.Author.Needs.{needs}
 use Rattle.utf8.specs.Valid.{isUtf8}
-use Rattle.utf8.proofs.Valid.{isUtf8-end, isUtf8-char, isUtf8-bad, isUtf8-front}
-use Rattle.utf8.proofs.is_utf8.Statement.{statement}
-use Rattle.utf8.proofs.is_utf8.Tie as tie
+use Rattle.utf8.proofs.HighBytes.{highest-above}
+use Rattle.utf8.proofs.Valid.{isUtf8-end, isUtf8-char, isUtf8-bad, isUtf8-ascii}
+use Rattle.utf8.proofs.short_utf8.Statement.{statement}
+use Rattle.utf8.proofs.short_utf8.Tie as tie
 
 -- the answer is that of the rest
 abbrev Inv-loop : tie.InvT-loop
@@ -17,29 +18,34 @@ Inv-loop text at₀ at = (at ≤ length text) × (isUtf8 (drop at text) ≡ isUt
 abbrev μ-loop : tie.MeasureT-loop
 μ-loop text at₀ at = length text - at
 
-ascii-front-requires : tie.Need-ascii-front-requires Inv-loop μ-loop
-ascii-front-requires c κs = search needs
+highest-requires : tie.Need-highest-requires Inv-loop μ-loop
+highest-requires c κs = search needs
+
+returns : tie.Need-returns Inv-loop μ-loop
+returns c =
+    let t = c .before .before .before .before .args .text .now in
+    isUtf8-ascii t (λ k h. omega (arith, c .before .highest .ensures, highest-above 0 t k h))
 
 loop-holds : tie.Need-loop-holds Inv-loop μ-loop
-loop-holds c = (search needs, isUtf8-front _ _ (c .ascii-front .ensures .1))
+loop-holds c = search needs
 
 valid-len-requires : tie.Need-valid-len-requires Inv-loop μ-loop
 valid-len-requires c κs = search needs
 
-returns : tie.Need-returns Inv-loop μ-loop
-returns c =
+returns-2 : tie.Need-returns-2 Inv-loop μ-loop
+returns-2 c =
     let b = c .before .before .before in
     let t = b .before .before .before .args .text .now in
-    sym (isUtf8-bad t (b .loop .at) _ (c .before .valid-len .ensures) (c .before .before .loop-test .taken) (c .if1 .taken)) ∙ b .loop .inv .1
+    sym (isUtf8-bad t (b .loop .at) _ (c .before .valid-len .ensures) (c .before .before .loop-test .taken) (c .if3 .taken)) ∙ b .loop .inv .1
 
 -- the character that a turn finds
-found : (c : tie.Else1 Inv-loop μ-loop) → let b = c .before .before .before in
+found : (c : tie.Else3 Inv-loop μ-loop) → let b = c .before .before .before in
     let t = b .before .before .before .args .text .now in
     let n = c .before .valid-len .result in
     (0 < n) × (b .loop .at + n ≤ length t) × (isUtf8 (drop (b .loop .at + n) t) ≡ isUtf8 (drop (b .loop .at) t))
 found c =
     let b = c .before .before .before in
-    isUtf8-char (b .before .before .before .args .text .now) (b .loop .at) _ (c .before .valid-len .ensures) (c .if1 .left)
+    isUtf8-char (b .before .before .before .args .text .now) (b .loop .at) _ (c .before .valid-len .ensures) (c .if3 .left)
 
 add-at : tie.Need-add-at Inv-loop μ-loop
 add-at c = omega (arith, found c)
@@ -50,20 +56,21 @@ loop-less c = omega (arith, found c)
 loop-again : tie.Need-loop-again Inv-loop μ-loop
 loop-again c = (found c .1, found c .2 ∙ c .before .before .before .loop .inv .1)
 
-returns-2 : tie.Need-returns-2 Inv-loop μ-loop
-returns-2 c = sym (isUtf8-end _ _ (c .loop-test .left)) ∙ c .before .loop .inv .1
+returns-3 : tie.Need-returns-3 Inv-loop μ-loop
+returns-3 c = sym (isUtf8-end _ _ (c .loop-test .left)) ∙ c .before .loop .inv .1
 
-pub is-utf8-spec : {M : Type 1} → statement M
-is-utf8-spec =
+pub short-utf8-spec : {M : Type 1} → statement M
+short-utf8-spec =
     tie.close
     (tie.spec
     Inv-loop
     μ-loop
-    ascii-front-requires
+    highest-requires
+    returns
     loop-holds
     valid-len-requires
-    returns
+    returns-2
     add-at
     loop-less
     loop-again
-    returns-2)
+    returns-3)

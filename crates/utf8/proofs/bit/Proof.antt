@@ -1,0 +1,16 @@
+-- `utf8::bit` meets its contract.
+-- Assumes nothing.
+use Rattle.utf8.specs.Faults.{bit}
+use Rattle.utf8.proofs.bit.Statement.{statement}
+use Rattle.utf8.proofs.bit.Tie as tie
+
+returns : tie.Need-returns
+unfolding bit
+returns c = simp (c .if1 .taken)
+
+returns-2 : tie.Need-returns-2
+unfolding bit
+returns-2 c = simp (c .if1 .left)
+
+pub bit-spec : {M : Type 1} → statement M
+bit-spec = tie.close (tie.spec returns returns-2)
