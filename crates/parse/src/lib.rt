@@ -613,14 +613,48 @@ fn is_suffix_rest(b: u8) -> bool
     is_decimal(b)
 }
 
-// How many bytes at the front may follow in a suffix. A long run is looked up in the table.
+fn rest_mark(b: u8) -> u8
+    ensures { λ r. ⌜ (r ≤ 1) × (r ≡ cond (suffixRest b) 0 1) ⌝ }
+{
+    if is_suffix_rest(b) { 0 } else { 1 }
+}
+
+fn rest_marks(s: &[u8]) -> u8
+    requires { ⌜ length (now s) ≤ 255 ⌝ }
+    ensures { λ r. ⌜ r ≡ outs suffixRest (now (s .entry)) ⌝ }
+{
+    let mut n: u8 = 0;
+    let mut i = 0;
+    while i < s.len() {
+        n += rest_mark(s[i]);
+        i += 1;
+    }
+    n
+}
+
+// How many bytes at the front may follow in a suffix: by blocks while there are 64 bytes, then by the table.
+fn long_rest_len(s: &[u8]) -> usize
+    ensures { λ r. ⌜ r ≡ run suffixRest (now (s .entry)) ⌝ }
+{
+    let mut i = 0;
+    while 64 <= s.len() - i {
+        let e = i + 64;
+        if rest_marks(&s[i..e]) != 0 {
+            return i + run_len(&s[i..], ClassSet::SuffixRest);
+        }
+        i = e;
+    }
+    i + run_len(&s[i..], ClassSet::SuffixRest)
+}
+
+// How many bytes at the front may follow in a suffix. A short run pays neither for a block nor for a copy of the table.
 fn rest_len(s: &[u8]) -> usize
     ensures { λ r. ⌜ r ≡ run suffixRest (now (s .entry)) ⌝ }
 {
     let mut i = 0;
     while i < s.len() {
         if i == 16 {
-            return i + run_len(&s[i..], ClassSet::SuffixRest);
+            return i + long_rest_len(&s[i..]);
         }
         if !is_suffix_rest(s[i]) {
             return i;

@@ -23,20 +23,20 @@ abbrev μ-loop : tie.MeasureT-loop
 loop-holds : tie.Need-loop-holds Inv-loop μ-loop
 loop-holds c = search needs
 
-sub-run-len : tie.Need-sub-run-len Inv-loop μ-loop
-sub-run-len c = search needs
+sub-long-rest-len : tie.Need-sub-long-rest-len Inv-loop μ-loop
+sub-long-rest-len c = search needs
 
-part-run-len-start : tie.Need-part-run-len-start Inv-loop μ-loop
-part-run-len-start c = search needs
+part-long-rest-len-start : tie.Need-part-long-rest-len-start Inv-loop μ-loop
+part-long-rest-len-start c = search needs
 
-part-run-len-end : tie.Need-part-run-len-end Inv-loop μ-loop
-part-run-len-end c = search needs
+part-long-rest-len-end : tie.Need-part-long-rest-len-end Inv-loop μ-loop
+part-long-rest-len-end c = search needs
 
-run-len-requires : tie.Need-run-len-requires Inv-loop μ-loop
-run-len-requires c κs = search needs
+long-rest-len-requires : tie.Need-long-rest-len-requires Inv-loop μ-loop
+long-rest-len-requires c κs = search needs
 
 returns : tie.Need-returns Inv-loop μ-loop
-returns c = rw (c .run-len .ensures, part-to-end) (c .before .before .before .before .loop .inv .1)
+returns c = rw (c .long-rest-len .ensures, part-to-end) (c .before .before .before .before .loop .inv .1)
 
 add-result : tie.Need-add-result Inv-loop μ-loop
 add-result c = omega (arith, returns c, run-le suffixRest (c .before .before .before .before .before .before .args .s .now))
@@ -73,10 +73,10 @@ rest-len-spec =
     Inv-loop
     μ-loop
     loop-holds
-    sub-run-len
-    part-run-len-start
-    part-run-len-end
-    run-len-requires
+    sub-long-rest-len
+    part-long-rest-len-start
+    part-long-rest-len-end
+    long-rest-len-requires
     add-result
     returns
     shared-slice-read-is-suffix-rest
