@@ -7,8 +7,8 @@ use Prim.Native.Nat.{ℕ, _+_, _-_, _*_, _≤_, _<_}
 use native.Mathlib.Omega.{arith}
 use native.Mathlib.Numerals.{add-one}
 use lib.Dec.{ltb, leb, eqb}
-use lib.ListN.{length, take, drop, getD, length-append, take-append-drop}
-use lib.Seq.{take-suc, take-add}
+use lib.ListN.{length, take, drop, getD, length-append, length-drop, take-append-drop, drop-of-length-le}
+use lib.Seq.{take-suc, take-add, drop-cons, drop-drop, length-take-le}
 use borrow.Author.Tests.{lt-ltb, le-ltb, le-leb, ne-eqb}
 use Rattle.buffer.specs.Digits.{hexDigits}
 use Rattle.scan.specs.Run.{run, All}
@@ -19,7 +19,7 @@ use Rattle.utf8.proofs.Laws.{is-row1}
 use Rattle.form.specs.Escapes.{letterFor, xForm, asciiForm, charForm, byteForm, charForms, byteForms}
 use Rattle.form.proofs.Fit.{Each}
 use Rattle.form.proofs.ByBytes.{textForms, high-bytes, by-bytes}
-use Rattle.quoting.specs.Styled.{highForm, styledForm, styledForms, printable, itself}
+use Rattle.quoting.specs.Styled.{highForm, styledForm, styledForms, extraOf, extrasOf, printable, itself}
 
 -- an `\x` escape has four bytes
 pub x-length : (b : ℕ) → length (xForm b) ≡ 4
@@ -116,6 +116,56 @@ module _ (w : Bool) (q : ℕ) where
   pub forms-short : (v : List ℕ) → length (styledForms w q v) ≤ 4 * length v
   forms-short [] = omega arith
   forms-short (b ∷ v) = rw length-append (omega (arith, form-short b, forms-short v))
+
+  pub all-measured : (v : List ℕ) (n : ℕ) → n ≡ length (styledForms w q v) → (n ≡ length (styledForms w q v)) × (n ≤ 4 * length v)
+  all-measured v n e = (e, omega (arith, e, forms-short v))
+
+  -- ---- by what each byte has more than one
+
+  form-some : (b : ℕ) → 1 ≤ length (styledForm w q b)
+  unfolding styledForm asciiForm
+  form-some b =
+      let P : List ℕ → Type 0 = λ l. 1 ≤ length l in
+      let x : P (xForm b) = omega (arith, x-length b) in
+      cond-in P (ltb b 128)
+      (λ e. cond-in P (eqb (letterFor q b) 0)
+      (λ f. cond-in P (leb 32 b && ltb b 127) {x = b ∷ []} {y = xForm b} (λ g. omega arith) (λ g. x)) (λ f. omega arith))
+      (λ e. cond-in P w (λ f. omega arith) (λ f. x))
+
+  -- a byte's length is one and what it has more
+  pub extra-is : (b n : ℕ) → n ≡ length (styledForm w q b) → (1 ≤ n) × (n - 1 ≡ extraOf w q b) × (n - 1 ≤ 3)
+  extra-is b n e = (omega (arith, form-some b), omega arith, omega (arith, form-short b))
+
+  -- and so is that of all
+  pub forms-extras : (v : List ℕ) → length (styledForms w q v) ≡ length v + extrasOf w q v
+  forms-extras [] = refl
+  forms-extras (b ∷ v) = rw length-append (omega (arith, form-some b, forms-extras v))
+
+  -- a sum goes on by one byte, and by a part
+  pub extras-more : (v : List ℕ) (i n : ℕ) → i < length v → n + extraOf w q (getD v i 0) + extrasOf w q (drop (i + 1) v) ≡ n + extrasOf w q (drop i v)
+  extras-more v i n h = rw (drop-cons v i 0, add-one) (omega arith)
+
+  pub extras-end : (v : List ℕ) (i n : ℕ) → length v ≤ i → n + extrasOf w q (drop i v) ≡ n
+  extras-end v i n h = rw (drop-of-length-le v h) (omega arith)
+
+  extras-append : (u v : List ℕ) → extrasOf w q (u ++ v) ≡ extrasOf w q u + extrasOf w q v
+  extras-append [] v = omega arith
+  extras-append (b ∷ u) v = omega (arith, extras-append u v)
+
+  extras-short : (v : List ℕ) → extrasOf w q v ≤ 3 * length v
+  extras-short [] = omega arith
+  extras-short (b ∷ v) = omega (arith, form-short b, extras-short v)
+
+  pub extras-part : (v : List ℕ) (i e m : ℕ) → i ≤ e → e ≤ length v → m ≡ extrasOf w q (take (e - i) (drop i v))
+      → (m ≤ 3 * (e - i)) × (m + extrasOf w q (drop e v) ≡ extrasOf w q (drop i v))
+  extras-part v i e m h l is =
+      let d = drop i v in
+      let at : i + (e - i) ≡ e = omega arith in
+      let rest : drop (e - i) d ≡ drop e v = rw (drop-drop, at) in
+      let whole = ap (extrasOf w q) (take-append-drop (e - i) d) in
+      let both = extras-append (take (e - i) d) (drop (e - i) d) in
+      let size = length-take-le (e - i) d (omega (arith, length-drop i v)) in
+      (omega (arith, extras-short (take (e - i) d)), rw (is, ← rest) (sym both ∙ whole))
 
 -- ---- a character above 127
 

@@ -3,8 +3,9 @@
 -- Assumes nothing.
 use mathlib.Core.Bool.{Bool, true, false, cond, _&&_}
 use mathlib.Core.List.{List, [], _∷_, _++_}
-use Prim.Native.Nat.{ℕ}
+use Prim.Native.Nat.{ℕ, _+_, _-_}
 use lib.Dec.{ltb, leb, eqb}
+use lib.ListN.{length}
 use Rattle.form.specs.Escapes.{asciiForm, xForm}
 
 -- a byte above 127: itself in kinds 4 and 5, an escape in the others
@@ -19,6 +20,15 @@ styledForm wide q b = cond (ltb b 128) (asciiForm q b) (highForm wide b)
 abbrev pub styledForms : Bool → ℕ → List ℕ → List ℕ
 styledForms wide q [] = []
 styledForms wide q (b ∷ v) = styledForm wide q b ++ styledForms wide q v
+
+-- how many bytes more than one a byte of a value has in the form
+abbrev pub extraOf : Bool → ℕ → ℕ → ℕ
+extraOf wide q b = length (styledForm wide q b) - 1
+
+-- all of them, in sum
+abbrev pub extrasOf : Bool → ℕ → List ℕ → ℕ
+extrasOf wide q [] = 0
+extrasOf wide q (b ∷ v) = extraOf wide q b + extrasOf wide q v
 
 -- ASCII that stands as itself where no letter escapes it: space to `~`
 unfoldable pub printable : ℕ → Bool

@@ -12,7 +12,7 @@ ghost use Rattle.utf8.specs.Utf8.{Scalar, encode};
 ghost use Rattle.escape.specs.Escape.{bytesOf, Valid};
 ghost use Rattle.body.specs.Body.{body};
 ghost use Rattle.form.specs.Escapes.{letterFor, xForm};
-ghost use Rattle.quoting.specs.Styled.{highForm, styledForm, styledForms, printable, itself};
+ghost use Rattle.quoting.specs.Styled.{highForm, styledForm, styledForms, extraOf, extrasOf, printable, itself};
 
 // How a kind writes its value: its quote, and whether a byte above 127 stands as itself.
 pub struct Style {
@@ -215,23 +215,40 @@ fn itself_end(s: &[u8], from: usize, style: Style) -> usize
     block_end(s, i, style)
 }
 
-// How long the bytes of a slice are in the form.
+// How many bytes more than one a byte of a value has in the form.
+fn extra(b: u8, style: Style) -> u8
+    ensures { λ r. ⌜ (r ≡ extraOf (style .wide) (style .quote) b) × (r ≤ 3) ⌝ }
+{
+    (form_len(b, style) - 1) as u8
+}
+
+// The same of all the bytes of a slice. With no exit on the way and a sum of one byte the compiler makes vectors of it.
+fn extras(s: &[u8], style: Style) -> u8
+    requires { ⌜ length (now s) ≤ 64 ⌝ }
+    ensures { λ r. ⌜ r ≡ extrasOf (style .wide) (style .quote) (now (s .entry)) ⌝ }
+{
+    let mut n: u8 = 0;
+    let mut i = 0;
+    while i < s.len() {
+        n += extra(s[i], style);
+        i += 1;
+    }
+    n
+}
+
+// How long the bytes of a slice are in the form: by blocks while there are 64 bytes, then the rest.
 pub fn forms_len(s: &[u8], style: Style) -> usize
     requires { ⌜ length (now s) ≤ 65536 ⌝ }
     ensures { λ r. ⌜ (r ≡ length (styledForms (style .wide) (style .quote) (now (s .entry)))) × (r ≤ 4 * length (now (s .entry))) ⌝ }
 {
-    let mut n: usize = 0;
+    let mut n: usize = s.len();
     let mut i = 0;
-    while i < s.len() {
-        let e = itself_end(s, i, style);
-        n += e - i;
-        if e == s.len() {
-            return n;
-        }
-        n += form_len(s[e], style);
-        i = e + 1;
+    while 64 <= s.len() - i {
+        let e = i + 64;
+        n += extras(&s[i..e], style) as usize;
+        i = e;
     }
-    n
+    n + extras(&s[i..], style) as usize
 }
 
 // The bytes of a slice, each behind the one before: a run of those that are their own forms at once.

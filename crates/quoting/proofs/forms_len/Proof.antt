@@ -2,89 +2,95 @@
 -- Assumes nothing.
 use borrow.Author.Needs.{needs}
 use mathlib.Core.Path.{_≡_}
-use mathlib.Core.List.{[]}
-use Prim.Native.Nat.{_+_, _-_, _*_, _≤_, _<_}
+use Prim.Native.Nat.{_≤_, _+_, _-_, _*_}
 use native.Mathlib.Omega.{arith}
-use lib.ListN.{length, take, length-append}
-use lib.Seq.{take-all}
-use Rattle.body.proofs.Runs.{counts}
-use Rattle.quoting.specs.Styled.{styledForms}
+use lib.ListN.{length, drop}
+use Rattle.scan.proofs.Parts.{part-to-end}
+use Rattle.quoting.specs.Styled.{styledForms, extrasOf}
 use Rattle.quoting.proofs.Styles as styles
 use Rattle.quoting.proofs.forms_len.Statement.{statement}
 use Rattle.quoting.proofs.forms_len.Tie as tie
 
+-- the length, what the bytes up to i have more and what the rest has more are the length of all forms
 abbrev Inv-loop : tie.InvT-loop
-Inv-loop s style n₀ i₀ n i = (i ≤ length s) × (n ≡ length (styledForms (style .wide) (style .quote) (take i s))) × (n ≤ 4 * i)
+Inv-loop s style n₀ i₀ n i =
+    (i ≤ length s) × (n ≤ length s + 3 * i)
+    × (n + extrasOf (style .wide) (style .quote) (drop i s) ≡ length s + extrasOf (style .wide) (style .quote) s)
 
 abbrev μ-loop : tie.MeasureT-loop
 μ-loop s style n₀ i₀ n i = length s - i
 
--- the run ends in the text, and has its length in the form
-counted : (b : tie.After-itself-end Inv-loop μ-loop) →
-    let l = b .before .before .loop in
-    let a = b .before .before .before .before .args in
-    (l .i ≤ b .itself-end .result) × (b .itself-end .result ≤ length (a .s .now))
-    × (l .n + (b .itself-end .result - l .i) ≡ length (styledForms (a .style .wide) (a .style .quote) (take (b .itself-end .result) (a .s .now))))
-counted b =
-    let l = b .before .before .loop in
-    let a = b .before .before .before .before .args in
-    let e = b .itself-end .result in
-    let n = counts _ (a .s .now) (l .i) [] e (l .inv .0) (b .itself-end .ensures) in (
-      n .0,
-      n .1,
-      rw (styles.forms-run _ _ (a .s .now) (l .i) e (b .itself-end .ensures), length-append) (omega (arith, l .inv .1, n .2)),
-    )
+-- a block has at most three more for each of its bytes
+block : (c : tie.After-extras Inv-loop μ-loop) →
+    let l = c .before .before .before .loop in
+    let a = c .before .before .before .before .before .args in
+    let x = extrasOf (a .style .wide) (a .style .quote) in
+    (c .extras .result ≤ 3 * (l .i + 64 - l .i)) × (c .extras .result + x (drop (l .i + 64) (a .s .now)) ≡ x (drop (l .i) (a .s .now)))
+block c = styles.extras-part _ _ _ _ _ _ (omega arith) (omega arith) (c .extras .ensures)
 
--- the byte behind it
-inside : (c : tie.Else1 Inv-loop μ-loop) → c .before .itself-end .result < length (c .before .before .before .before .before .args .s .now)
-inside c = omega (arith, counted (c .before) .1, c .if1 .left)
+-- with the rest it is the length of all forms
+whole : (c : tie.After-extras2 Inv-loop μ-loop) →
+    let a = c .before .before .before .before .before .args in
+    let n = c .before .before .before .loop .n + c .extras2 .result in
+    (n ≡ length (styledForms (a .style .wide) (a .style .quote) (a .s .now))) × (n ≤ 4 * length (a .s .now))
+whole c =
+    let a = c .before .before .before .before .before .args in
+    styles.all-measured (a .style .wide) (a .style .quote) (a .s .now) _
+    (rw (styles.forms-extras, c .extras2 .ensures, part-to-end) (c .before .before .before .loop .inv .2))
 
 loop-holds : tie.Need-loop-holds Inv-loop μ-loop
 loop-holds c = search needs
 
-itself-end-requires : tie.Need-itself-end-requires Inv-loop μ-loop
-itself-end-requires c κs = search needs
+sub-loop : tie.Need-sub-loop Inv-loop μ-loop
+sub-loop c = search needs
 
-sub-n : tie.Need-sub-n Inv-loop μ-loop
-sub-n c = counted c .0
+add-e : tie.Need-add-e Inv-loop μ-loop
+add-e c = search needs
+
+sub-extras : tie.Need-sub-extras Inv-loop μ-loop
+sub-extras c = search needs
+
+part-extras-start : tie.Need-part-extras-start Inv-loop μ-loop
+part-extras-start c = search needs
+
+part-extras-end : tie.Need-part-extras-end Inv-loop μ-loop
+part-extras-end c = search needs
+
+extras-requires : tie.Need-extras-requires Inv-loop μ-loop
+extras-requires c κs = search needs
+
+cast-n : tie.Need-cast-n Inv-loop μ-loop
+cast-n c = search needs
 
 add-n : tie.Need-add-n Inv-loop μ-loop
-add-n c = omega (arith, counted c .0, counted c .1)
-
-returns : tie.Need-returns Inv-loop μ-loop
-returns c =
-    let b = c .before in
-    let e = take-all (b .itself-end .result) (b .before .before .before .before .args .s .now) (omega (arith, c .if1 .taken)) in
-    (rw e at (counted b .2), omega (arith, counted b .0))
-
-shared-slice-read-form-len : tie.Need-shared-slice-read-form-len Inv-loop μ-loop
-shared-slice-read-form-len c = omega (arith, inside (c .before))
-
-form-len-requires : tie.Need-form-len-requires Inv-loop μ-loop
-form-len-requires c κs = search needs
-
-add-n-2 : tie.Need-add-n-2 Inv-loop μ-loop
-add-n-2 c = let d = c .before .before in omega (arith, counted (d .before) .0, inside d, c .form-len .ensures .1)
-
-add-i : tie.Need-add-i Inv-loop μ-loop
-add-i c = omega (arith, inside (c .before .before))
+add-n c = omega (arith, block c .0)
 
 loop-less : tie.Need-loop-less Inv-loop μ-loop
-loop-less c = let d = c .before .before in omega (arith, counted (d .before) .0, inside d)
+loop-less c = search needs
 
 loop-again : tie.Need-loop-again Inv-loop μ-loop
-loop-again c =
-    let d = c .before .before in
-    let b = d .before in
-    let a = b .before .before .before .before .args in (
-      omega (arith, inside d),
-      rw (styles.forms-more (a .style .wide) (a .style .quote) (a .s .now) (b .itself-end .result) (inside d), length-append)
-          (omega (arith, counted b .2, c .form-len .ensures .0)),
-      omega (arith, counted b .0, c .form-len .ensures .1),
-    )
+loop-again c = (omega arith, omega (arith, block c .0), omega (arith, block c .1, c .before .before .before .loop .inv .2))
 
-returns-2 : tie.Need-returns-2 Inv-loop μ-loop
-returns-2 c = (rw (take-all (c .before .loop .i) (c .before .before .before .args .s .now) (c .loop-test .left)) at (c .before .loop .inv .1), omega arith)
+sub-extras-2 : tie.Need-sub-extras-2 Inv-loop μ-loop
+sub-extras-2 c = search needs
+
+part-extras-start-2 : tie.Need-part-extras-start-2 Inv-loop μ-loop
+part-extras-start-2 c = search needs
+
+part-extras-end-2 : tie.Need-part-extras-end-2 Inv-loop μ-loop
+part-extras-end-2 c = search needs
+
+extras-requires-2 : tie.Need-extras-requires-2 Inv-loop μ-loop
+extras-requires-2 c κs = search needs
+
+cast-result : tie.Need-cast-result Inv-loop μ-loop
+cast-result c = search needs
+
+add-result : tie.Need-add-result Inv-loop μ-loop
+add-result c = omega (arith, whole c .1)
+
+returns : tie.Need-returns Inv-loop μ-loop
+returns c = whole c
 
 pub forms-len-spec : {M : Type 1} → statement M
 forms-len-spec =
@@ -93,14 +99,20 @@ forms-len-spec =
     Inv-loop
     μ-loop
     loop-holds
-    itself-end-requires
-    sub-n
+    sub-loop
+    add-e
+    sub-extras
+    part-extras-start
+    part-extras-end
+    extras-requires
+    cast-n
     add-n
-    returns
-    shared-slice-read-form-len
-    form-len-requires
-    add-n-2
-    add-i
     loop-less
     loop-again
-    returns-2)
+    sub-extras-2
+    part-extras-start-2
+    part-extras-end-2
+    extras-requires-2
+    cast-result
+    add-result
+    returns)
