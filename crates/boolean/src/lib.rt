@@ -5,7 +5,7 @@ use err::Reading;
 ghost use mathlib.Core.Path.{_≡_};
 ghost use Rattle.err.specs.Reading.{outcomeOf};
 ghost use Rattle.scan.specs.Same.{same};
-ghost use Rattle.boolean.specs.Bool.{trueText, falseText, boolRead};
+ghost use Rattle.boolean.specs.Bool.{trueText, falseText, isBool, boolRead};
 
 fn is_false(text: &[u8]) -> bool
     ensures { λ r. ⌜ r ≡ same (now (text .entry)) falseText ⌝ }
@@ -44,6 +44,16 @@ fn is_true(text: &[u8]) -> bool
         return false;
     }
     text[3] == b'e'
+}
+
+// Whether a text is a bool.
+pub fn is_bool(text: &[u8]) -> bool
+    ensures { λ r. ⌜ r ≡ isBool (now (text .entry)) ⌝ }
+{
+    if is_true(text) {
+        return true;
+    }
+    is_false(text)
 }
 
 pub fn parse(text: &[u8]) -> Reading

@@ -1,14 +1,14 @@
 -- What reading by entry code answers: litrs's `parse` (src/parse.rs) for entry 0, each kind's own `parse` for entries 1 to 8.
 -- Assumes nothing.
 use Prim.Native.Nat.{ℕ}
-use mathlib.Core.Bool.{Bool, cond, _||_}
+use mathlib.Core.Bool.{Bool, cond, _||_, _&&_}
 use mathlib.Core.List.{List, [], _∷_}
 use lib.Dec.{eqb, leb}
 use lib.ListN.{getD}
 use Rattle.err.specs.Outcome.{Outcome, refused, none}
 use Rattle.scan.specs.Run.{run}
 use Rattle.parse.specs.Sets.{digit, decDigit, startsE}
-use Rattle.boolean.specs.Bool.{boolRead}
+use Rattle.boolean.specs.Bool.{isBool, boolRead}
 use Rattle.integer.specs.Integer.{integerRead}
 use Rattle.float.specs.Float.{floatRead}
 use Rattle.character.specs.Single.{charRead, byteRead}
@@ -70,6 +70,10 @@ readAt code s =
     (refused 42 none)
 
 -- ---- the entry that reads a text
+
+-- a bool by entry 0 or 1: nothing is wrong with such a text, so that it need not be checked (law `bool-read`)
+unfoldable pub boolAt : ℕ → List ℕ → Bool
+boolAt code s = leb code 1 && isBool s
 
 -- of a number: float or integer, by the rule above
 unfoldable pub numberEntry : List ℕ → ℕ

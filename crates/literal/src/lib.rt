@@ -19,7 +19,7 @@ ghost use Rattle.integer.specs.Value.{valuedOf};
 ghost use Rattle.err.specs.Reading.{outcomeOf};
 ghost use Rattle.string.specs.Decode.{decodedOf};
 ghost use Rattle.literal.specs.Checks.{faultOf, textFault};
-ghost use Rattle.literal.specs.Readings.{startsFloat, numberEntry, byteEntry, entryFor, chosenEntry, quoteIn, kindIn, entryRead, readAt};
+ghost use Rattle.literal.specs.Readings.{startsFloat, numberEntry, byteEntry, entryFor, chosenEntry, quoteIn, kindIn, entryRead, boolAt, readAt};
 ghost use Rattle.literal.specs.Decodes.{kindCoded, decodeAt, bufferAt};
 ghost use Rattle.literal.specs.Values.{valueAt};
 ghost use Rattle.literal.specs.Suffixes.{integerFromSuffix, floatFromSuffix};
@@ -160,6 +160,16 @@ fn entry(code: u64, text: &[u8]) -> Reading
     }
 }
 
+// Whether a text is a bool and read as one. Its few bytes tell, so that it pays for no check.
+fn is_bool_at(code: u64, text: &[u8]) -> bool
+    ensures { λ r. ⌜ r ≡ boolAt code (now (text .entry)) ⌝ }
+{
+    if 1 < code {
+        return false;
+    }
+    boolean::is_bool(text)
+}
+
 // The reading of a text by entry code.
 pub fn read(code: u64, text: &[u8]) -> Reading
     ensures { λ r. ⌜ outcomeOf r ≡ readAt code (now (text .entry)) ⌝ }
@@ -167,6 +177,9 @@ pub fn read(code: u64, text: &[u8]) -> Reading
 {
     if 8 < code {
         return err::perr_nowhere(ParseErrorKind::BadCode);
+    }
+    if is_bool_at(code, text) {
+        return boolean::parse(text);
     }
     let checked = check_text(text);
     let Checked::Bad(kind) = checked else {
