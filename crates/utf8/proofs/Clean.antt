@@ -69,7 +69,7 @@ module _ (c b a : ℕ) where
   unfolding wantsTail
   wants-fourth ha hb h = simp (lt-leb 0xC0 a ha, lt-leb 0xE0 b hb, le-leb 0xF0 c h)
 
--- behind another byte than E0, ED, F0 and F4 there is no range
+-- behind a byte below E0 there is no range
 least-any : (a : ℕ) → a < 0xE0 → leastBehind a ≡ 0
 unfolding leastBehind
 least-any a h = simp (ne-eqb a 0xE0 (λ e. omega arith), ne-eqb a 0xF0 (λ e. omega arith))
@@ -112,9 +112,10 @@ never-high x g = simp (ne-eqb x 0xC0 (λ e. omega arith), ne-eqb x 0xC1 (λ e. o
 pub never-not : (x : ℕ) → (x < 0xC0) ⊎ (0xC2 ≤ x) → x ≤ 0xF4 → never x ≡ false
 unfolding never
 never-not x h l =
-    simp (ne-eqb x 0xC0 (λ e. ⊎-elim (λ k. omega arith) (λ k. omega arith) h), ne-eqb x 0xC1 (λ e. ⊎-elim (λ k. omega arith) (λ k. omega arith) h), le-ltb 0xF4 x l)
+    let out : (n : ℕ) → 0xC0 ≤ n → n < 0xC2 → x ≡ n → ⊥ = λ n g k e. ⊎-elim (λ m. omega arith) (λ m. omega arith) h in
+    simp (ne-eqb x 0xC0 (out 0xC0 (omega arith) (omega arith)), ne-eqb x 0xC1 (out 0xC1 (omega arith) (omega arith)), le-ltb 0xF4 x l)
 
--- a byte that breaks no rule, and what each rule asks
+-- a tail is wanted exactly where one stands, or exactly where none does
 kept : (w : Bool) → xor w w ≡ false
 unfolding xor
 kept true = refl
@@ -125,6 +126,7 @@ unfolding xor
 broken true = refl
 broken false = refl
 
+-- a byte that breaks no rule, and one that breaks each
 module _ (c b a x : ℕ) where
   no-fault : tail x ≡ wantsTail c b a → never x ≡ false → leastBehind a ≤ x → x ≤ mostBehind a → faultOf c b a x ≡ 0
   unfolding bit faultOf

@@ -95,31 +95,38 @@ part-refused (suc n) c b a [] h = absurd (h refl)
 part-refused (suc n) c b a (x ∷ r) h =
     cond-eq (λ (t : Bool). t ≡ false) (faultOf c b a x) 0 (λ e. part-refused n b a x r (λ z. h (worst-none c b a x (take n r) e ∙ z))) (λ e. refl)
 
--- the same of a list whose first three bytes are those before
-front-passed : (m : ℕ) (s : List ℕ) → m + 3 ≤ length s → worstBehind (take (suc (suc (suc m))) s) ≡ 0 → cleanBehind s ≡ cleanBehind (drop m s)
-front-passed m [] l h = absurd (omega arith)
-front-passed m (c ∷ []) l h = absurd (omega arith)
-front-passed m (c ∷ b ∷ []) l h = absurd (omega arith)
-front-passed m (c ∷ b ∷ a ∷ r) l h = part-passed m c b a r (omega arith) h
+pub first-three : (s : List ℕ) → 3 ≤ length s → s ≡ getD s 0 0 ∷ getD s 1 0 ∷ getD s 2 0 ∷ drop 3 s
+first-three [] h = absurd (omega arith)
+first-three (c ∷ []) h = absurd (omega arith)
+first-three (c ∷ b ∷ []) h = absurd (omega arith)
+first-three (c ∷ b ∷ a ∷ r) h = refl
 
-front-refused : (m : ℕ) (s : List ℕ) → m + 3 ≤ length s → (worstBehind (take (suc (suc (suc m))) s) ≡ 0 → ⊥) → cleanBehind s ≡ false
-front-refused m [] l h = absurd (omega arith)
-front-refused m (c ∷ []) l h = absurd (omega arith)
-front-refused m (c ∷ b ∷ []) l h = absurd (omega arith)
-front-refused m (c ∷ b ∷ a ∷ r) l h = part-refused m c b a r h
-
--- and of the part of a text from i to e, with the three bytes before it
+-- the part of a text from i to e, lent with the three bytes before it
 module _ (t : List ℕ) (i e : ℕ) (g : 3 ≤ i) (k : i ≤ e) (l : e ≤ length t) where
-  pub block-passed : worstBehind (take (e - (i - 3)) (drop (i - 3) t)) ≡ 0 → cleanBehind (drop (e - 3) t) ≡ cleanBehind (drop (i - 3) t)
-  block-passed h =
+  s : List ℕ
+  s = drop (i - 3) t
+
+  cut : s ≡ getD s 0 0 ∷ getD s 1 0 ∷ getD s 2 0 ∷ drop 3 s
+  unfolding s
+  cut = first-three s (omega (arith, length-drop (i - 3) t))
+
+  lent : worstBehind (take (e - (i - 3)) s) ≡ worstFrom 0 (getD s 0 0) (getD s 1 0) (getD s 2 0) (take (e - i) (drop 3 s))
+  lent =
       let n : e - (i - 3) ≡ suc (suc (suc (e - i))) = omega arith in
+      rw n (ap (λ (p : List ℕ). worstBehind (take (suc (suc (suc (e - i)))) p)) cut)
+
+  pub block-passed : worstBehind (take (e - (i - 3)) (drop (i - 3) t)) ≡ 0 → cleanBehind (drop (e - 3) t) ≡ cleanBehind (drop (i - 3) t)
+  unfolding s
+  block-passed h =
       let m : i - 3 + (e - i) ≡ e - 3 = omega arith in
-      sym (front-passed (e - i) (drop (i - 3) t) (omega (arith, length-drop (i - 3) t)) (rw n at h) ∙ rw (drop-drop (e - i) (i - 3) t, m))
+      let q : length (drop 3 s) ≡ length t - (i - 3) - 3 = simp length-drop in
+      sym (part-passed (e - i) _ _ _ (drop 3 s) (omega arith) (sym lent ∙ h) ∙
+      ap (λ (p : List ℕ). cleanBehind (drop (e - i) p)) (sym cut) ∙
+      rw (drop-drop (e - i) (i - 3) t, m))
 
   pub block-refused : (worstBehind (take (e - (i - 3)) (drop (i - 3) t)) ≡ 0 → ⊥) → cleanBehind (drop (i - 3) t) ≡ false
-  block-refused h =
-      let n : e - (i - 3) ≡ suc (suc (suc (e - i))) = omega arith in
-      front-refused (e - i) (drop (i - 3) t) (omega (arith, length-drop (i - 3) t)) (rw n at h)
+  unfolding s
+  block-refused h = part-refused (e - i) _ _ _ (drop 3 s) (λ z. h (lent ∙ z))
 
 -- the three bytes before an offset
 pub behind-at : (t : List ℕ) (i : ℕ) → 3 ≤ i → cleanBehind (drop (i - 3) t) ≡ clean (getD t (i - 3) 0) (getD t (i - 2) 0) (getD t (i - 1) 0) (drop i t)
@@ -144,9 +151,3 @@ end-clean t h = behind-at t (length t) h ∙ rw (drop-length t)
 
 pub below-same : (n x : ℕ) → not (leb n x) ≡ ltb x n
 below-same n x = by-lt x n (λ h. simp (lt-leb n x h, lt-ltb x n h)) (λ h. simp (le-leb n x h, le-ltb x n h))
-
-pub first-three : (t : List ℕ) → 3 ≤ length t → getD t 0 0 ∷ getD t 1 0 ∷ getD t 2 0 ∷ [] ≡ take 3 t
-first-three [] h = absurd (omega arith)
-first-three (x ∷ []) h = absurd (omega arith)
-first-three (x ∷ y ∷ []) h = absurd (omega arith)
-first-three (x ∷ y ∷ z ∷ t) h = refl

@@ -1,8 +1,9 @@
 -- `utf8::front_fault` meets its contract.
 -- Assumes nothing.
-use mathlib.Core.Path.{ap, _∙_}
+use mathlib.Core.Path.{sym, ap, _∙_}
 use mathlib.Core.List.{List}
 use Prim.Native.Nat.{ℕ}
+use lib.ListN.{take}
 use borrow.Author.Needs.{needs}
 use Rattle.utf8.specs.Faults.{worstFrom}
 use Rattle.utf8.proofs.Faults.{first-three}
@@ -27,7 +28,7 @@ worst-fault-requires c κs = search needs
 returns : tie.Need-returns
 returns c =
     let b = c .before .before .before .before .before .before in
-    c .worst-fault .ensures ∙ ap (λ (s : List ℕ). worstFrom 0 0 0 0 s) (first-three (b .args .text .now) (b .pre))
+    c .worst-fault .ensures ∙ ap (λ (s : List ℕ). worstFrom 0 0 0 0 (take 3 s)) (sym (first-three (b .args .text .now) (b .pre)))
 
 pub front-fault-spec : {M : Type 1} → statement M
 front-fault-spec =
