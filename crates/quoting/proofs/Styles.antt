@@ -8,7 +8,7 @@ use native.Mathlib.Omega.{arith}
 use native.Mathlib.Numerals.{add-one}
 use lib.Dec.{ltb, leb, eqb}
 use lib.ListN.{length, take, drop, getD, length-append, length-drop, take-append-drop, drop-of-length-le}
-use lib.Seq.{take-suc, take-add, drop-cons, drop-drop, length-take-le}
+use lib.Seq.{take-suc, take-add, drop-cons, length-take-le}
 use borrow.Author.Tests.{lt-ltb, le-ltb, le-leb, ne-eqb}
 use Rattle.buffer.specs.Digits.{hexDigits}
 use Rattle.scan.specs.Run.{run, All}
@@ -19,6 +19,7 @@ use Rattle.utf8.proofs.Laws.{is-row1}
 use Rattle.form.specs.Escapes.{letterFor, xForm, asciiForm, charForm, byteForm, charForms, byteForms}
 use Rattle.form.proofs.Fit.{Each}
 use Rattle.form.proofs.ByBytes.{textForms, high-bytes, by-bytes}
+use Rattle.quoting.proofs.Sums.{part-sum}
 use Rattle.quoting.specs.Styled.{highForm, styledForm, styledForms, extraOf, extrasOf, printable, itself}
 
 -- an `\x` escape has four bytes
@@ -159,13 +160,8 @@ module _ (w : Bool) (q : ℕ) where
   pub extras-part : (v : List ℕ) (i e m : ℕ) → i ≤ e → e ≤ length v → m ≡ extrasOf w q (take (e - i) (drop i v))
       → (m ≤ 3 * (e - i)) × (m + extrasOf w q (drop e v) ≡ extrasOf w q (drop i v))
   extras-part v i e m h l is =
-      let d = drop i v in
-      let at : i + (e - i) ≡ e = omega arith in
-      let rest : drop (e - i) d ≡ drop e v = rw (drop-drop, at) in
-      let whole = ap (extrasOf w q) (take-append-drop (e - i) d) in
-      let both = extras-append (take (e - i) d) (drop (e - i) d) in
-      let size = length-take-le (e - i) d (omega (arith, length-drop i v)) in
-      (omega (arith, extras-short (take (e - i) d)), rw (is, ← rest) (sym both ∙ whole))
+      let size = length-take-le (e - i) (drop i v) (omega (arith, length-drop i v)) in
+      (omega (arith, extras-short (take (e - i) (drop i v))), rw is (part-sum (extrasOf w q) extras-append v i e h))
 
 -- ---- a character above 127
 

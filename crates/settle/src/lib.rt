@@ -3,10 +3,12 @@
 use err::ByteLit;
 use err::CharLit;
 use err::FloatLit;
+use err::Hashes;
 use err::IntegerLit;
 use err::ParseErrorKind;
 use err::Reading;
 use err::Span;
+use err::StringLit;
 use integer::Within;
 use quoting::Style;
 use scaling::FormLen;
@@ -246,13 +248,31 @@ fn bound_fits(value_len: usize, rest: usize, have: usize) -> bool
     n <= have
 }
 
+// The same for a string of kind 5. In a text without control characters no form of one that is not raw is longer than the text.
+fn string_fits(text: &[u8], lit: StringLit, have: usize) -> bool
+    requires { ⌜ outcomeOf (reading.String lit) ≡ readAt 0 (now text) ⌝ }
+    ensures { λ r. ⌜ r ≡ surelyFits (now (text .entry)) (outcomeOf (reading.String lit)) have ⌝ }
+{
+    if bound_fits(lit.value_len, text.len() - lit.start_suffix, have) {
+        return true;
+    }
+    let hashes = lit.hashes;
+    let Hashes::NotRaw = hashes else {
+        return false;
+    };
+    if have < text.len() {
+        return false;
+    }
+    string_form::has_no_control(text)
+}
+
 // Whether a string's form fits for sure: then it need not be measured before it is written.
 fn surely_fits(text: &[u8], found: Reading, have: usize) -> bool
     requires { ⌜ outcomeOf found ≡ readAt 0 (now text) ⌝ }
-    ensures { λ r. ⌜ r ≡ surelyFits (length (now (text .entry))) (outcomeOf found) have ⌝ }
+    ensures { λ r. ⌜ r ≡ surelyFits (now (text .entry)) (outcomeOf found) have ⌝ }
 {
     match found {
-        Reading::String(lit) => bound_fits(lit.value_len, text.len() - lit.start_suffix, have),
+        Reading::String(lit) => string_fits(text, lit, have),
         Reading::ByteString(lit) => bound_fits(lit.value_len, text.len() - lit.start_suffix, have),
         Reading::CString(lit) => bound_fits(lit.value_len, text.len() - lit.start_suffix, have),
         _ => false,

@@ -4,9 +4,11 @@ use err::StringLit;
 use quoting::Style;
 use string::Kind;
 ghost use mathlib.Core.Path.{_≡_};
+ghost use mathlib.Core.Bool.{cond};
 ghost use mathlib.Core.List.{[]};
 ghost use Prim.Native.Nat.{_≤_};
 ghost use lib.ListN.{length};
+ghost use Rattle.scan.specs.Run.{outs};
 ghost use Rattle.buffer.specs.Buffer.{Wrote};
 ghost use Rattle.utf8.specs.Utf8.{Utf8};
 ghost use Rattle.form.specs.Form.{bareForm};
@@ -14,6 +16,7 @@ ghost use Rattle.quoting.specs.Styled.{styledForms};
 ghost use Rattle.body.specs.declared.Quoted.the-variants as answer;
 ghost use Rattle.string.specs.String.{parsedOf, stringRead, stringValue};
 ghost use Rattle.string_form.specs.Strings.{worthIn, openingOf, wideIn};
+ghost use Rattle.string_form.specs.Shown.{shown, allShown};
 
 fn style_of(k: Kind) -> Style
     ensures { λ r. ⌜ (r .quote ≡ 34) × (r .wide ≡ wideIn k) ⌝ }
@@ -124,4 +127,45 @@ pub fn put_form(out: &mut [u8], text: &[u8], lit: StringLit, k: Kind) -> usize
     let start = put_opening(out, k);
     let at = start + put_value(&mut out[start..], text, lit, k);
     at + buffer::put_one(&mut out[at..], b'"')
+}
+
+fn control_mark(b: u8) -> u8
+    ensures { λ r. ⌜ (r ≤ 1) × (r ≡ cond (shown b) 0 1) ⌝ }
+{
+    if b < 32 {
+        return 1;
+    }
+    if b == 127 {
+        return 1;
+    }
+    0
+}
+
+// How many bytes are control characters. With no exit on the way and a sum of one byte the compiler makes vectors of it.
+fn control_marks(s: &[u8]) -> u8
+    requires { ⌜ length (now s) ≤ 255 ⌝ }
+    ensures { λ r. ⌜ r ≡ outs shown (now (s .entry)) ⌝ }
+{
+    let mut n: u8 = 0;
+    let mut i = 0;
+    while i < s.len() {
+        n += control_mark(s[i]);
+        i += 1;
+    }
+    n
+}
+
+// Whether no byte is an ASCII control character: by blocks while there are 64 bytes, then the rest.
+pub fn has_no_control(s: &[u8]) -> bool
+    ensures { λ r. ⌜ r ≡ allShown (now (s .entry)) ⌝ }
+{
+    let mut i = 0;
+    while 64 <= s.len() - i {
+        let e = i + 64;
+        if control_marks(&s[i..e]) != 0 {
+            return false;
+        }
+        i = e;
+    }
+    control_marks(&s[i..]) == 0
 }
