@@ -1,20 +1,14 @@
--- Laws of `Wrote`, what a lent buffer holds after a piece was written to its front, and of `roomFor`, whether it may be written.
+-- Laws of `Wrote`, what a lent buffer holds after a piece was written to its front.
 -- Assumes nothing.
 use mathlib.Core.Path.{_≡_, refl, ap, sym, _∙_}
-use mathlib.Core.Bool.{Bool, true, false, cond}
-use mathlib.Core.Logic.{_↔_}
 use mathlib.Core.List.{List, [], _∷_, _++_, append-assoc, append-nil}
 use Prim.Native.Nat.{ℕ, suc, _+_, _-_, _≤_, _<_}
 use native.Mathlib.Omega.{arith}
 use native.Mathlib.Numerals.{add-one}
-use lib.Dec.{leb}
 use lib.ListN.{length, take, drop, set, getD, length-append, length-drop, drop-of-length-le}
 use lib.Seq.{take-at, drop-at, drop-drop, drop-cons, set-at, take-all, take-suc}
-use borrow.Author.Tests.{le-leb, lt-leb, leb-true, leb-false}
 use borrow.Rule.Slice.PartMut.{putMid}
-use Rattle.buffer.specs.declared.Room.{Room}
-use Rattle.buffer.specs.declared.Room.the-variants.{Enough, TooLong, TooSmall}
-use Rattle.buffer.specs.Buffer.{over, Wrote, roomFor, bufferAfter}
+use Rattle.buffer.specs.Buffer.{over, Wrote}
 
 -- ---- a piece of known length
 
@@ -107,60 +101,3 @@ copied {i} piece w h g =
 
 pub copied-all : {i : ℕ} {l out : List ℕ} (piece : List ℕ) → Wrote (take i piece) i l out → length piece ≤ i → Wrote piece i l out
 copied-all {i} piece w h = rw (take-all i piece h) at w
-
--- ---- whether a piece may be written, and the buffer after the answer
-
-abbrev place : Room → ℕ
-place Enough = 0
-place TooLong = 1
-place TooSmall = 2
-
-module _ (len most have : ℕ) where
-  pub too-long : most < len → TooLong ≡ roomFor len most have
-  too-long h = simp (lt-leb len most h)
-
-  pub too-small : len ≤ most → have < len → TooSmall ≡ roomFor len most have
-  too-small h g = simp (le-leb len most h, lt-leb len have g)
-
-  pub enough : len ≤ most → len ≤ have → Enough ≡ roomFor len most have
-  enough h g = simp (le-leb len most h, le-leb len have g)
-
-  -- the three cases
-  pub room-cases {ℓ} : (P : Room → Type ℓ)
-      → (most < len → P TooLong) → (len ≤ most → have < len → P TooSmall) → (len ≤ most → len ≤ have → P Enough) → P (roomFor len most have)
-  room-cases P long small fits = by-test (leb len most) (leb len have) (leb-true len most) (leb-false len most) (leb-true len have) (leb-false len have)
-    where
-      by-test : (s t : Bool) → (s ≡ true → len ≤ most) → (s ≡ false → most < len) → (t ≡ true → len ≤ have) → (t ≡ false → have < len)
-          → P (cond s (cond t Enough TooSmall) TooLong)
-      by-test true true a b c d = fits (a refl) (c refl)
-      by-test true false a b c d = small (a refl) (d refl)
-      by-test false t a b c d = long (b refl)
-
-  pub is-too-long : (roomFor len most have ≡ TooLong) ↔ (most < len)
-  is-too-long = (
-    room-cases (λ r. r ≡ TooLong → most < len) (λ h e. h) (λ h g e. absurd (omega (arith, ap place e))) (λ h g e. absurd (omega (arith, ap place e))),
-    λ h. sym (too-long h),
-  )
-
-  pub is-too-small : (roomFor len most have ≡ TooSmall) ↔ ((len ≤ most) × (have < len))
-  is-too-small = (
-    room-cases (λ r. r ≡ TooSmall → (len ≤ most) × (have < len)) (λ h e. absurd (omega (arith, ap place e))) (λ h g e. (h, g)) (λ h g e. absurd (omega (arith, ap place e))),
-    λ h. sym (too-small (h .0) (h .1)),
-  )
-
-  pub is-enough : (roomFor len most have ≡ Enough) ↔ ((len ≤ most) × (len ≤ have))
-  is-enough = (
-    room-cases (λ r. r ≡ Enough → (len ≤ most) × (len ≤ have)) (λ h e. absurd (omega (arith, ap place e))) (λ h g e. absurd (omega (arith, ap place e))) (λ h g e. (h, g)),
-    λ h. sym (enough (h .0) (h .1)),
-  )
-
--- a piece that fits both and was written
-pub written : {piece : List ℕ} {n : ℕ} {buf after : List ℕ} (most : ℕ) → Wrote piece n buf after → length piece ≤ most → length piece ≤ length buf
-    → (Enough ≡ roomFor (length piece) most (length buf)) × (after ≡ bufferAfter Enough piece buf)
-written {piece} {n} {buf} most w h g = (enough (length piece) most (length buf) h g, w .bytes)
-
--- a refusal changes no byte
-pub untouched : (r : Room) (piece buf : List ℕ) → (r ≡ Enough → ⊥) → bufferAfter r piece buf ≡ buf
-untouched Enough piece buf h = absurd (h refl)
-untouched TooLong piece buf h = refl
-untouched TooSmall piece buf h = refl

@@ -3,28 +3,8 @@ ghost use mathlib.Core.Path.{_≡_};
 ghost use mathlib.Core.List.{_∷_, []};
 ghost use Prim.Native.Nat.{_≤_, _<_};
 ghost use lib.ListN.{length};
-ghost use Rattle.buffer.specs.Buffer.{Wrote, roomFor, bufferAfter};
+ghost use Rattle.buffer.specs.Buffer.{Wrote};
 ghost use Rattle.buffer.specs.Digits.{decimal, hexDigit, hexDigits};
-
-// Whether a piece may be written whole: it is longer than allowed, or else than the buffer.
-pub enum Room {
-    Enough,
-    TooLong,
-    TooSmall,
-}
-
-// Whether len bytes are within the most that are allowed, and then within a buffer that has `have`.
-pub fn room_for(len: usize, most: usize, have: usize) -> Room
-    ensures { λ r. ⌜ r ≡ roomFor len most have ⌝ }
-{
-    if most < len {
-        return Room::TooLong;
-    }
-    if have < len {
-        return Room::TooSmall;
-    }
-    Room::Enough
-}
 
 pub fn put_one(out: &mut [u8], a: u8) -> usize
     requires { ⌜ 1 ≤ length (now out) ⌝ }
@@ -75,22 +55,6 @@ pub fn put_bytes(out: &mut [u8], piece: &[u8]) -> usize
         i += 1;
     }
     i
-}
-
-// A slice, where it has at most `most` bytes and fits; else the buffer keeps every byte.
-pub fn put_within(out: &mut [u8], piece: &[u8], most: usize) -> Room
-    ensures { λ r. ⌜ r ≡ roomFor (length (now (piece .entry))) most (length (now (out .entry))) ⌝ }
-    ensures { λ r. ⌜ now (out .exit) ≡ bufferAfter (roomFor (length (now (piece .entry))) most (length (now (out .entry)))) (now (piece .entry)) (now (out .entry)) ⌝ }
-{
-    let room = room_for(piece.len(), most, out.len());
-    match room {
-        Room::Enough => {
-            put_bytes(out, piece);
-            Room::Enough
-        }
-        Room::TooLong => Room::TooLong,
-        Room::TooSmall => Room::TooSmall,
-    }
 }
 
 fn hex_digit(d: u8) -> u8
