@@ -9,7 +9,8 @@ use borrow.Author.Tests.{le-leb, lt-leb, leb-true}
 use lib.Dec.{eqb, leb}
 use lib.ListN.{length, drop, length-append, length-drop}
 use Rattle.err.specs.Outcome.{Place, none, Outcome, refused, accepted, Rawness, notRaw, raw, decoded}
-use Rattle.err.specs.Reading.{hashesOf, outcomeOf}
+use Rattle.err.specs.Reading.{baseOf, hashesOf, outcomeOf}
+use Rattle.err.specs.declared.IntegerLit.{IntegerLit}
 use Rattle.err.specs.declared.StringLit.{StringLit}
 use Rattle.err.specs.declared.Reading.{Reading}
 use Rattle.err.specs.declared.Reading.the-variants as reading
@@ -20,12 +21,12 @@ use Rattle.grammar.specs.Meaning as worth
 use Rattle.form.specs.Form.{bareForm, formOf, faultOf, integerForm, reducedForm}
 use Rattle.form.specs.Reduced.{reduce}
 use Rattle.grammar.specs.Decimal.{Decimal}
-use Rattle.integer.specs.Value.{within}
+use Rattle.integer.specs.Value.{within, number}
 use Rattle.integer.specs.declared.Within.the-variants.{Number, Over}
 use Rattle.utf8.specs.Utf8.{Scalar, encode}
 use Rattle.quoting.specs.Styled.{styledForm, styledForms}
 use Rattle.quoting.proofs.Styles.{char-style, byte-style, forms-short}
-use Rattle.scaling.specs.Scaled.{near, Length, known, too-far}
+use Rattle.scaling.specs.Scaled.{part, near, Length, known, too-far}
 use Rattle.string.specs.String.{stringRead, stringValue}
 use Rattle.string.specs.declared.Kind.{Kind}
 use Rattle.string.specs.declared.Kind.the-variants.{Text, Bytes, C}
@@ -255,7 +256,7 @@ module _ (s : List ℕ) (have : ℕ) where
 -- ---- integers and floats, which may have none
 
 -- the number that is at most the largest
-pub same-number : (m : ℕ) {n : ℕ} → Number n ≡ within 18446744073709551615 m → n ≡ m
+same-number : (m : ℕ) {n : ℕ} → Number n ≡ within 18446744073709551615 m → n ≡ m
 same-number m {n} = by-test (leb m 18446744073709551615)
   where
     by-test : (t : Bool) → Number n ≡ cond t (Number m) Over → n ≡ m
@@ -281,6 +282,35 @@ module _ (m : ℕ) (x : List ℕ) where
           → bad 45 none ≡ cond (eqb (cond t 0 45) 0) (len (length (integerForm m x))) (bad (cond t 0 45) none)
       by-test true e = let z : _≡_ {A = ℕ} 0 1 = cc in absurd (omega arith)
       by-test false e = refl
+
+module _ (s : List ℕ) (lit : IntegerLit) where
+  -- the number that an integer's digits mark
+  abbrev pub numberIn : ℕ
+  numberIn = number (baseOf (lit .base)) (part (lit .«start_main_part») (lit .«end_main_part») s)
+
+  pub integer-over : Over ≡ within 18446744073709551615 numberIn → withheld 45 none ≡ measureOf s (outcomeOf (reading.Integer lit))
+  integer-over w = sym (measure-refused s (outcomeOf (reading.Integer lit)) (sym (is-over _ (drop (lit .«end_main_part») s) w)))
+
+  module _ {n : ℕ} (w : Number n ≡ within 18446744073709551615 numberIn) where
+    integer-bare : bareBy s (outcomeOf (reading.Integer lit)) ≡ len (length (integerForm n (drop (lit .«end_main_part») s)))
+    integer-bare = sym (is-within _ (drop (lit .«end_main_part») s) w)
+
+    -- its form is made of the number and the suffix
+    pub integer-form : formBy s (outcomeOf (reading.Integer lit)) ≡ formOf (worth.integer n) (drop (lit .«end_main_part») s)
+    integer-form = ap (λ (m : ℕ). formOf (worth.integer m) (drop (lit .«end_main_part») s)) (sym (same-number numberIn w))
+
+    pub integer-size : length (formOf (worth.integer n) (drop (lit .«end_main_part») s))
+        ≡ length (integerForm n (drop (lit .«end_main_part») s)) + (length s - lit .«end_main_part»)
+    integer-size = form-length (worth.integer n) (drop (lit .«end_main_part») s) ∙ rw length-drop
+
+    pub integer-long : 65536 < length (integerForm n (drop (lit .«end_main_part») s)) + (length s - lit .«end_main_part»)
+        → withheld 47 none ≡ measureOf s (outcomeOf (reading.Integer lit))
+    integer-long h = sym (measure-long s (outcomeOf (reading.Integer lit)) integer-bare h)
+
+    pub integer-formed : length (integerForm n (drop (lit .«end_main_part») s)) + (length s - lit .«end_main_part») ≤ 65536
+        → formed 2 (length (integerForm n (drop (lit .«end_main_part») s)) + (length s - lit .«end_main_part»))
+        ≡ measureOf s (outcomeOf (reading.Integer lit))
+    integer-formed h = sym (measure-formed s (outcomeOf (reading.Integer lit)) integer-bare h)
 
 -- the length of a float's form, as scaling answers it
 abbrev pub bareIn : Length → BareForm

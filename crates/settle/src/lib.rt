@@ -23,7 +23,7 @@ ghost use Rattle.err.specs.declared.Reading.the-variants as reading;
 ghost use Rattle.buffer.specs.Buffer.{Wrote};
 ghost use Rattle.utf8.specs.Utf8.{Scalar};
 ghost use Rattle.grammar.specs.Meaning as worth;
-ghost use Rattle.form.specs.Form.{bareForm};
+ghost use Rattle.form.specs.Form.{bareForm, formOf};
 ghost use Rattle.integer.specs.Value.{within, number};
 ghost use Rattle.scaling.specs.Scaled.{part};
 ghost use Rattle.literal.specs.Readings.{readAt};
@@ -82,17 +82,13 @@ fn integer_len(text: &[u8], lit: IntegerLit) -> Bare
     Bare::Len(integer_form::form_len(n, &text[end..]))
 }
 
-fn put_integer(out: &mut [u8], text: &[u8], lit: IntegerLit) -> usize
-    requires { ⌜ (outcomeOf (reading.Integer lit) ≡ readAt 0 (now text)) × Roomy (now text) (outcomeOf (reading.Integer lit)) (length (now out)) ⌝ }
-    ensures { λ r. ⌜ Wrote (bareFormBy (now (text .entry)) (outcomeOf (reading.Integer lit))) r (now (out .entry)) (now (out .exit)) ⌝ }
+// An integer's form, and the suffix behind it.
+fn put_number(out: &mut [u8], n: u64, suffix: &[u8]) -> usize
+    requires { ⌜ length (formOf (worth.integer n) (now suffix)) ≤ length (now out) ⌝ }
+    ensures { λ r. ⌜ Wrote (formOf (worth.integer n) (now (suffix .entry))) r (now (out .entry)) (now (out .exit)) ⌝ }
 {
-    let found = number_of(text, lit);
-    // cannot arise: the number was measured
-    let Within::Number(n) = found else {
-        return 0;
-    };
-    let end = lit.end_main_part;
-    integer_form::put_form(out, n, &text[end..])
+    let at = integer_form::put_form(out, n, suffix);
+    at + buffer::put_bytes(&mut out[at..], suffix)
 }
 
 fn float_len(text: &[u8], lit: FloatLit) -> Bare
@@ -142,15 +138,15 @@ fn bare_len(text: &[u8], found: Reading) -> Bare
     }
 }
 
-// The form of a reading without its suffix. A refused reading cannot arise: it has no form.
+// The form of a reading that is no integer, without its suffix. A refused reading cannot arise: it has no form.
 fn put_bare(out: &mut [u8], text: &[u8], found: Reading) -> usize
-    requires { ⌜ (outcomeOf found ≡ readAt 0 (now text)) × Roomy (now text) (outcomeOf found) (length (now out)) ⌝ }
+    requires { ⌜ (outcomeOf found ≡ readAt 0 (now text)) × Roomy (now text) (outcomeOf found) (length (now out)) × (kindIn (outcomeOf found) ≡ 2 → ⊥) ⌝ }
     ensures { λ r. ⌜ Wrote (bareFormBy (now (text .entry)) (outcomeOf found)) r (now (out .entry)) (now (out .exit)) ⌝ }
 {
     match found {
         Reading::Refused(_, _) => 0,
         Reading::Bool(_) => buffer::put_bytes(out, text),
-        Reading::Integer(lit) => put_integer(out, text, lit),
+        Reading::Integer(_) => 0,
         Reading::Float(lit) => scaling::put_float(out, text, lit),
         Reading::Char(lit) => put_char(out, lit),
         Reading::String(lit) => string_form::put_form(out, text, lit, Kind::Text),
@@ -212,9 +208,9 @@ fn measure_of(text: &[u8], found: Reading) -> Settled
     }
 }
 
-// A reading's form: the suffix is written into what remains behind the rest.
+// The form of a reading that is no integer: the suffix is written into what remains behind the rest.
 fn put_reading(out: &mut [u8], text: &[u8], found: Reading) -> usize
-    requires { ⌜ (outcomeOf found ≡ readAt 0 (now text)) × Fits (now text) (outcomeOf found) (length (now out)) ⌝ }
+    requires { ⌜ (outcomeOf found ≡ readAt 0 (now text)) × Fits (now text) (outcomeOf found) (length (now out)) × (kindIn (outcomeOf found) ≡ 2 → ⊥) ⌝ }
     ensures { λ r. ⌜ Wrote (formBy (now (text .entry)) (outcomeOf found)) r (now (out .entry)) (now (out .exit)) ⌝ }
 {
     let start = suffix_start(found);
@@ -279,14 +275,34 @@ fn surely_fits(text: &[u8], found: Reading, have: usize) -> bool
     }
 }
 
-// A text's settled form, written to the front of out: measured first where it might not fit, so that a refusal leaves every byte of out
-// as it came.
-pub fn settle(text: &[u8], out: &mut [u8]) -> Settled
+// The form of an integer, whose number is worked out once: 45, 47 and 48 come before anything is written.
+fn settle_integer(text: &[u8], out: &mut [u8], lit: IntegerLit) -> Settled
+    requires { ⌜ outcomeOf (reading.Integer lit) ≡ readAt 0 (now text) ⌝ }
     ensures { λ r. ⌜ settledOf r ≡ settleAt (now (text .entry)) (length (now (out .entry))) ⌝ }
     ensures { λ r. ⌜ now (out .exit) ≡ bufferAt (now (text .entry)) (now (out .entry)) ⌝ }
-    ensures { λ r. ⌜ now (text .exit) ≡ now (text .entry) ⌝ }
 {
-    let found = literal::read(0, text);
+    let found = number_of(text, lit);
+    let Within::Number(n) = found else {
+        return Settled::Refused(ParseErrorKind::NoValue, Span::Nowhere);
+    };
+    let end = lit.end_main_part;
+    let suffix = &text[end..];
+    let size = integer_form::form_len(n, suffix) + suffix.len();
+    if 65536 < size {
+        return Settled::Refused(ParseErrorKind::FormTooLong, Span::Nowhere);
+    }
+    if out.len() < size {
+        return Settled::Refused(ParseErrorKind::OutTooSmall, Span::Nowhere);
+    }
+    Settled::Formed(2, put_number(out, n, suffix))
+}
+
+// The form of any other reading: measured first where it might not fit.
+fn settle_other(text: &[u8], out: &mut [u8], found: Reading) -> Settled
+    requires { ⌜ (outcomeOf found ≡ readAt 0 (now text)) × (kindIn (outcomeOf found) ≡ 2 → ⊥) ⌝ }
+    ensures { λ r. ⌜ settledOf r ≡ settleAt (now (text .entry)) (length (now (out .entry))) ⌝ }
+    ensures { λ r. ⌜ now (out .exit) ≡ bufferAt (now (text .entry)) (now (out .entry)) ⌝ }
+{
     if !surely_fits(text, found, out.len()) {
         let measure = measure_of(text, found);
         let Settled::Formed(_, n) = measure else {
@@ -298,4 +314,17 @@ pub fn settle(text: &[u8], out: &mut [u8]) -> Settled
     }
     let n = put_reading(out, text, found);
     Settled::Formed(kind_of(found), n)
+}
+
+// A text's settled form, written to the front of out. A refusal leaves every byte of out as it came.
+pub fn settle(text: &[u8], out: &mut [u8]) -> Settled
+    ensures { λ r. ⌜ settledOf r ≡ settleAt (now (text .entry)) (length (now (out .entry))) ⌝ }
+    ensures { λ r. ⌜ now (out .exit) ≡ bufferAt (now (text .entry)) (now (out .entry)) ⌝ }
+    ensures { λ r. ⌜ now (text .exit) ≡ now (text .entry) ⌝ }
+{
+    let found = literal::read(0, text);
+    let Reading::Integer(lit) = found else {
+        return settle_other(text, out, found);
+    };
+    settle_integer(text, out, lit)
 }

@@ -1,84 +1,68 @@
 -- `settle::settle` meets its contract.
 -- Assumes nothing.
 use borrow.Author.Needs.{needs}
-use borrow.Author.Tests.{not-false}
-use mathlib.Core.Logic.{⊎-elim}
-use mathlib.Core.Path.{refl, sym, ap, _∙_}
-use lib.ListN.{length}
+use denote.Enum.Declared.{tagOf}
+use mathlib.Core.List.{List, [], _∷_}
+use mathlib.Core.Path.{_≡_, refl, sym, ap, _∙_}
+use Prim.Native.Nat.{ℕ}
+use native.Mathlib.Omega.{arith}
+use types.Run.{OneOf, miss}
 use Rattle.err.specs.Reading.{outcomeOf}
-use Rattle.settle.specs.Settled.{settledOf}
-use Rattle.settle.proofs.Forms.{Ready, formed-fits, surely-ready, settle-refused, settle-small, settle-written}
+use Rattle.err.specs.declared.Reading.{Reading}
+use Rattle.err.specs.declared.Reading.the-variants as reading
+use Rattle.err.proofs.Reading.{the-type}
+use Rattle.settle.specs.Settled.{kindIn}
 use Rattle.settle.proofs.settle.Statement.{statement}
 use Rattle.settle.proofs.settle.Tie as tie
 
 read-requires : tie.Need-read-requires
 read-requires c κs = search needs
 
-surely-fits-requires : tie.Need-surely-fits-requires
-surely-fits-requires c κs = search needs
+enum-known-found : tie.Need-enum-known-found
+enum-known-found c = search needs
 
-measure-of-requires : tie.Need-measure-of-requires
-measure-of-requires c κs = search needs
+-- the variants that are not integers, by their place among all
+abbrev others : List ℕ
+others = 0 ∷ 1 ∷ 3 ∷ 4 ∷ 5 ∷ 6 ∷ 7 ∷ 8 ∷ []
 
-enum-known-measure : tie.Need-enum-known-measure
-enum-known-measure c = search needs
+other : (found : Reading) → OneOf others (tagOf the-type found) → kindIn (outcomeOf found) ≡ 2 → ⊥
+other (reading.Integer lit) o e = miss others _ tt o
+other (reading.Refused k p) o e = omega arith
+other (reading.Bool lit) o e = omega arith
+other (reading.Float lit) o e = omega arith
+other (reading.Char lit) o e = omega arith
+other (reading.Byte lit) o e = omega arith
+other (reading.String lit) o e = omega arith
+other (reading.ByteString lit) o e = omega arith
+other (reading.CString lit) o e = omega arith
 
-enum-told : tie.Need-enum-told
-enum-told c = search needs
-
-returns : tie.Need-returns
-returns c =
-    let told = c .enum-told .given .1 in
-    let m = c .before .before in
-    let a = settle-refused _ _ _ (m .before .before .before .read .ensures .0) (sym (ap settledOf told) ∙ m .measure-of .ensures) in
-    (rw told (a .0), (a .1, refl))
-
-returns-2 : tie.Need-returns-2
-returns-2 c =
-    let k = c .before .before in
-    let m = k .before .before in
-    let a = settle-small _ _ _ (m .before .before .before .read .ensures .0) (sym (ap settledOf (k .measure .given .1)) ∙ m .measure-of .ensures) (c .if2 .taken) in
-    (a .0, (a .1, refl))
-
--- measured or not, the form is there and fits
-fits : (c : tie.Joined1) → let a = c .before .before .before .before .before .args in
-    Ready (a .text .now) (outcomeOf (c .before .before .read .result)) (length (a .out .now))
-fits c =
-    let b = c .before in
-    ⊎-elim
-    (λ w. formed-fits _ _ (sym (w .1 .ensures) ∙ ap settledOf (w .3 .given .1)) (w .5 .left))
-    (λ w. surely-ready _ _ (b .before .read .result) (b .before .read .ensures .0) (sym (b .surely-fits .ensures) ∙ not-false _ (w .left)))
-    (c .if1 .came)
-
-put-reading-requires : tie.Need-put-reading-requires
-put-reading-requires c κs = (c .before .before .before .read .ensures .0, fits (c .before) .0)
-
-kind-of-requires : tie.Need-kind-of-requires
-kind-of-requires c κs = search needs
+settle-other-requires : tie.Need-settle-other-requires
+settle-other-requires c κs = (c .before .before .read .ensures .0, other (c .before .before .read .result) (c .before .match .keys2))
 
 same-length : tie.Need-same-length
 same-length c = search needs
 
-returns-3 : tie.Need-returns-3
-returns-3 c =
-    let p = c .before .before .before in
-    let j = p .before .before in
-    let f = fits j in
-    let a = settle-written _ _ _ (j .before .before .read .ensures .0) (f .1) (f .0 .room) in
-    (rw (c .kind-of .ensures, p .put-reading .ensures .count) (a .0), (p .put-reading .ensures .bytes ∙ a .1, refl))
+returns : tie.Need-returns
+returns c = let e = c .before .before .settle-other .ensures in (e .0, (e .1, refl))
+
+settle-integer-requires : tie.Need-settle-integer-requires
+settle-integer-requires c κs = let f = c .before .before in sym (ap outcomeOf (f .found .given .1)) ∙ f .before .before .read .ensures .0
+
+same-length-2 : tie.Need-same-length-2
+same-length-2 c = search needs
+
+returns-2 : tie.Need-returns-2
+returns-2 c = let e = c .before .before .settle-integer .ensures in (e .0, (e .1, refl))
 
 pub settle-spec : {M : Type 1} → statement M
 settle-spec =
     tie.close
     (tie.spec
     read-requires
-    surely-fits-requires
-    measure-of-requires
-    enum-known-measure
-    enum-told
-    returns
-    returns-2
-    put-reading-requires
-    kind-of-requires
+    enum-known-found
+    settle-other-requires
     same-length
-    returns-3)
+    returns
+    settle-integer-requires
+    same-length-2
+    returns-2)
