@@ -1,4 +1,4 @@
-// Quoted and raw bodies: measured, written, and judged with the suffix behind them.
+// Quoted bodies: measured, written, and judged with the suffix behind them.
 use err::Hashes;
 use err::ParseErrorKind;
 use err::Span;
@@ -8,21 +8,19 @@ use escape::Escape;
 use escape::Unescaped;
 use parse::ClassSet;
 use parse::Suffix;
-use scan::ByteSet;
 ghost use mathlib.Core.Path.{_≡_};
 ghost use mathlib.Core.Bool.{cond};
 ghost use Prim.Native.Nat.{_+_, _-_, _≤_, _<_};
-ghost use lib.Dec.{eqb, ltb, leb};
+ghost use lib.Dec.{eqb, ltb};
 ghost use lib.ListN.{length, getD, drop};
 ghost use Rattle.err.specs.Reading.{hashesOf};
 ghost use Rattle.scan.specs.Run.{run};
-ghost use Rattle.scan.specs.Sets.{only};
 ghost use Rattle.buffer.specs.Buffer.{Wrote};
 ghost use Rattle.utf8.specs.Cut.{lastLen};
 ghost use Rattle.body.specs.Code.{codeOf, Stopped};
-ghost use Rattle.body.specs.Step.{stop, endOf, nextOf, lineBreakOf, backslashOf, plainOf, plainByte, stepOf, rawStepOf};
-ghost use Rattle.body.specs.Body.{body, rawBody, Measures, Fitting};
-ghost use Rattle.body.specs.Quote.{quoteOf, closing, suffixed, afterEnd, stringOf, rawOf};
+ghost use Rattle.body.specs.Step.{stop, endOf, nextOf, lineBreakOf, backslashOf, plainOf, plainByte, stepOf};
+ghost use Rattle.body.specs.Body.{body, Measures, Fitting};
+ghost use Rattle.body.specs.Quote.{quoteOf, closing, suffixed, afterEnd, stringOf};
 
 // Why a body ends: at its closing quote, or with a refusal whose span counts from there.
 pub enum Ending {
@@ -57,7 +55,7 @@ fn refuse(kind: ParseErrorKind) -> Step
 }
 
 // A byte other than a backslash.
-fn plain(b: u8, k: Allowed) -> Step
+pub fn plain(b: u8, k: Allowed) -> Step
     ensures { λ r. ⌜ nextOf r ≡ plainOf k b ⌝ }
 {
     if b == b'\r' {
@@ -141,7 +139,7 @@ fn byte_run(s: &[u8], from: usize, k: Allowed) -> usize
 }
 
 // The same, by blocks while there are 64 bytes.
-fn block_end(s: &[u8], from: usize, k: Allowed) -> usize
+pub fn block_end(s: &[u8], from: usize, k: Allowed) -> usize
     requires { ⌜ from ≤ length (now s) ⌝ }
     ensures { λ r. ⌜ r ≡ from + run (plainByte k) (drop from (now (s .entry))) ⌝ }
 {
@@ -352,85 +350,6 @@ pub fn write_value(out: &mut [u8], s: &[u8], k: Allowed) -> usize
     }
 }
 
-// What stands at i of a raw body with h hashes.
-fn raw_step(s: &[u8], i: usize, h: usize, k: Allowed) -> Step
-    ensures { λ r. ⌜ nextOf r ≡ rawStepOf k h (drop i (now (s .entry))) ⌝ }
-{
-    if s.len() <= i {
-        return Step::Stop(Ending::Bad(ParseErrorKind::UnterminatedRawString, Span::Nowhere));
-    }
-    let b = s[i];
-    if b != b'"' {
-        return plain(b, k);
-    }
-    let next = i + 1;
-    if h <= scan::run_len(&s[next..], ByteSet::Only(b'#')) {
-        return Step::Stop(Ending::Close);
-    }
-    Step::Piece(Unescaped::Byte(b'"'), 1)
-}
-
-// Whether h hashes stand at an offset.
-fn has_hashes(s: &[u8], from: usize, h: usize) -> bool
-    requires { ⌜ from ≤ length (now s) ⌝ }
-    ensures { λ r. ⌜ r ≡ leb h (run (only 35) (drop from (now (s .entry)))) ⌝ }
-{
-    if s.len() - from < h {
-        return false;
-    }
-    let mut j = 0;
-    while j < h {
-        if s[from + j] != b'#' {
-            return false;
-        }
-        j += 1;
-    }
-    true
-}
-
-// Why a raw body ends where no piece is.
-fn raw_ending_at(s: &[u8], at: usize, h: usize, k: Allowed) -> Ending
-    requires { ⌜ Stopped (rawStepOf k h (drop at (now s))) ⌝ }
-    ensures { λ r. ⌜ stop (endOf r) ≡ rawStepOf k h (drop at (now (s .entry))) ⌝ }
-{
-    let next = raw_step(s, at, h, k);
-    // cannot arise: the step is none that goes on
-    let Step::Stop(why) = next else {
-        return Ending::Close;
-    };
-    why
-}
-
-// The body of a raw string with h hashes. It stands for its own bytes, so that its length is where it ends.
-fn measure_raw(s: &[u8], h: usize, k: Allowed) -> Measured
-    ensures { λ r. ⌜ Measures (rawBody k h (now (s .entry))) r ⌝ }
-{
-    let mut e = block_end(s, 0, k);
-    loop {
-        let b = scan::byte_at(s, e);
-        if b == b'"' {
-            let next = e + 1;
-            if has_hashes(s, next, h) {
-                return Measured {
-                    at: e,
-                    len: e,
-                    end: Ending::Close,
-                };
-            }
-            e = plain_end(s, next, k);
-            continue;
-        }
-        if b != b'\\' {
-            return Measured {
-                at: e,
-                len: e,
-                end: raw_ending_at(s, e, h, k),
-            };
-        }
-        e = plain_end(s, e + 1, k);
-    }
-}
-
 // The literal where its suffix is good, or the suffix's refusal.
 fn check_end(text: &[u8], lit: StringLit) -> Quoted
     requires { ⌜ lit .«start_suffix» ≤ length (now text) ⌝ }
@@ -445,7 +364,7 @@ fn check_end(text: &[u8], lit: StringLit) -> Quoted
 }
 
 // A body was measured that starts at an offset, and q bytes close it.
-fn after_body(text: &[u8], hashes: Hashes, q: usize, offset: usize, m: Measured) -> Quoted
+pub fn after_body(text: &[u8], hashes: Hashes, q: usize, offset: usize, m: Measured) -> Quoted
     requires { ⌜ (q ≡ closing (hashesOf hashes)) × Fitting q (offset) (length (now text)) m ⌝ }
     ensures { λ r. ⌜ quoteOf r ≡ afterEnd (now (text .entry)) (hashesOf hashes) (offset + m .at) (m .len) (endOf (m .end)) ⌝ }
 {
@@ -471,25 +390,4 @@ pub fn unescape_string(text: &[u8], offset: usize, k: Allowed) -> Quoted
 {
     let m = measure(&text[offset..], k);
     after_body(text, Hashes::NotRaw, 1, offset, m)
-}
-
-// A text whose hashes start at an offset, behind the `r`.
-pub fn scan_raw_string(text: &[u8], offset: usize, k: Allowed) -> Quoted
-    requires { ⌜ offset ≤ length (now text) ⌝ }
-    ensures { λ r. ⌜ quoteOf r ≡ rawOf k offset (now (text .entry)) ⌝ }
-{
-    let h = scan::run_len(&text[offset..], ByteSet::Only(b'#'));
-    let at = offset + h;
-    if at == text.len() {
-        return Quoted::Refused(ParseErrorKind::InvalidLiteral, Span::Nowhere);
-    }
-    if 255 < h {
-        return Quoted::Refused(ParseErrorKind::TooManyHashes, Span::Between(offset, at));
-    }
-    if text[at] != b'"' {
-        return Quoted::Refused(ParseErrorKind::InvalidLiteral, Span::Nowhere);
-    }
-    let start = at + 1;
-    let m = measure_raw(&text[start..], h, k);
-    after_body(text, Hashes::Raw(h as u8), h + 1, start, m)
 }

@@ -121,7 +121,7 @@ fn parse_lit(text: &[u8], k: Kind) -> Quoted
     let start = opening_of(text, k);
     match start {
         Opening::Quoted => body::unescape_string(text, k.offset(), k.allowed()),
-        Opening::Raw => body::scan_raw_string(text, k.offset(), k.allowed()),
+        Opening::Raw => raw::scan_raw_string(text, k.offset(), k.allowed()),
         Opening::Neither => k.refused_start(),
     }
 }

@@ -1,4 +1,4 @@
--- `body::measure_raw` meets its contract.
+-- `raw::measure_raw` meets its contract.
 -- Assumes nothing.
 use borrow.Author.Needs.{needs}
 use mathlib.Core.Path.{_≡_, refl, sym, _∙_}
@@ -7,11 +7,11 @@ use Prim.Native.Nat.{ℕ, _<_, _-_}
 use native.Mathlib.Omega.{arith}
 use borrow.Author.Tests.{leb-true, leb-false}
 use lib.ListN.{length, getD}
 use Rattle.body.proofs.Steps as steps
 use Rattle.body.proofs.Within.{inside}
 use Rattle.body.proofs.Raws as raws
-use Rattle.body.proofs.measure_raw.Statement.{statement}
-use Rattle.body.proofs.measure_raw.Tie as tie
+use Rattle.raw.proofs.measure_raw.Statement.{statement}
+use Rattle.raw.proofs.measure_raw.Tie as tie
 
 -- the loop stands where a run has ended
 abbrev Inv-loop : tie.InvT-loop

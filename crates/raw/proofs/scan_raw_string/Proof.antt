@@ -1,4 +1,4 @@
--- `body::scan_raw_string` meets its contract.
+-- `raw::scan_raw_string` meets its contract.
 -- Assumes nothing.
 use mathlib.Core.Path.{_≡_, refl, _∙_}
 use Prim.Native.Nat.{_≤_, _+_}
@@ -8,13 +8,13 @@ use Rattle.scan.specs.Run.{run}
 use Rattle.scan.specs.Sets.{only}
 use Rattle.scan.proofs.Parts.{part-to-end}
 use Rattle.scan.proofs.Runs.{run-le}
 use Rattle.body.specs.Step.{rawStepOf}
 use Rattle.body.specs.Body.{rawBody, Measures}
 use Rattle.body.proofs.Within.{raw-in}
 use Rattle.body.proofs.Strings as strings
 use borrow.Author.Needs.{needs}
-use Rattle.body.proofs.scan_raw_string.Statement.{statement}
-use Rattle.body.proofs.scan_raw_string.Tie as tie
+use Rattle.raw.proofs.scan_raw_string.Statement.{statement}
+use Rattle.raw.proofs.scan_raw_string.Tie as tie
 
 count : (c : tie.After-run-len) → c .run-len .result ≡ run (only 35) (drop (c .before .before .before .args .offset) (c .before .before .before .args .text .now))
 count c = c .run-len .ensures ∙ rw part-to-end

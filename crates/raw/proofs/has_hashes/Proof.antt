@@ -1,4 +1,4 @@
--- `body::has_hashes` meets its contract.
+-- `raw::has_hashes` meets its contract.
 -- Assumes nothing.
 use borrow.Author.Needs.{needs}
 use mathlib.Core.Path.{_≡_, sym, _∙_}
@@ -11,8 +11,8 @@ use lib.ListN.{drop, length-drop}
 use Rattle.scan.specs.Run.{run}
 use Rattle.scan.specs.Sets.{only}
 use Rattle.scan.proofs.Runs.{run-le, run-more, run-stop}
-use Rattle.body.proofs.has_hashes.Statement.{statement}
-use Rattle.body.proofs.has_hashes.Tie as tie
+use Rattle.raw.proofs.has_hashes.Statement.{statement}
+use Rattle.raw.proofs.has_hashes.Tie as tie
 
 abbrev hashes : List ℕ → ℕ → ℕ
 hashes s from = run (only 35) (drop from s)

@@ -1,10 +1,10 @@
--- `body::raw_ending_at` meets its contract.
+-- `raw::raw_ending_at` meets its contract.
 -- Assumes nothing.
 use borrow.Author.Needs.{needs}
 use mathlib.Core.Path.{sym, ap, _∙_}
 use Rattle.body.specs.Step.{nextOf}
-use Rattle.body.proofs.raw_ending_at.Statement.{statement}
-use Rattle.body.proofs.raw_ending_at.Tie as tie
+use Rattle.raw.proofs.raw_ending_at.Statement.{statement}
+use Rattle.raw.proofs.raw_ending_at.Tie as tie
 
 raw-step-requires : tie.Need-raw-step-requires
 raw-step-requires c κs = search needs

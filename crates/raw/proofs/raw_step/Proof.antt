@@ -1,4 +1,4 @@
--- `body::raw_step` meets its contract.
+-- `raw::raw_step` meets its contract.
 -- Assumes nothing.
 use mathlib.Core.Path.{_≡_, _∙_}
 use Prim.Native.Nat.{_+_}
@@ -6,10 +6,10 @@ use lib.ListN.{drop}
 use Rattle.scan.specs.Run.{run}
 use Rattle.scan.specs.Sets.{only}
 use Rattle.scan.proofs.Parts.{part-to-end}
 use Rattle.body.proofs.Steps as steps
 use borrow.Author.Needs.{needs}
-use Rattle.body.proofs.raw_step.Statement.{statement}
-use Rattle.body.proofs.raw_step.Tie as tie
+use Rattle.raw.proofs.raw_step.Statement.{statement}
+use Rattle.raw.proofs.raw_step.Tie as tie
 
 count : (c : tie.After-run-len) → c .run-len .result ≡ run (only 35) (drop (c .before .before .before .before .before .before .args .i + 1) (c .before .before .before .before .before .before .args .s .now))
 count c = c .run-len .ensures ∙ rw part-to-end
