@@ -55,7 +55,7 @@ run-take p (suc m) (b ∷ s) = by-test (p b) (run-take p m s)
     by-test true f = omega arith
     by-test false f = omega arith
 
-run-past : (p : ℕ → Bool) (m : ℕ) (s : List ℕ) → m ≤ run p s → run p s ≡ m + run p (drop m s)
+pub run-past : (p : ℕ → Bool) (m : ℕ) (s : List ℕ) → m ≤ run p s → run p s ≡ m + run p (drop m s)
 run-past p zero s h = omega arith
 run-past p (suc m) [] h = absurd (omega arith)
 run-past p (suc m) (b ∷ s) h = by-test (p b) (run-past p m s) h

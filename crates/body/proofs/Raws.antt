@@ -1,29 +1,26 @@
 -- A raw body stands for its own bytes.
 -- Assumes nothing.
 use mathlib.Core.Path.{_≡_, refl, ap, sym, _∙_}
-use mathlib.Core.Bool.{not, _&&_, and-false}
+use mathlib.Core.Bool.{not, _&&_}
 use mathlib.Core.List.{List, [], _∷_, _++_}
-use Prim.Native.Nat.{ℕ, _+_, _-_, _<_}
+use Prim.Native.Nat.{ℕ, _+_, _<_}
 use native.Mathlib.Omega.{arith}
 use lib.Dec.{eqb, ltb, leb}
 use lib.ListN.{length, getD, take, drop, length-drop}
-use lib.Seq.{take-add, drop-cons, length-take-le}
-use Rattle.scan.specs.Run.{run, Stops}
+use lib.Seq.{take-add, length-take-le}
+use Rattle.scan.specs.Run.{run}
 use Rattle.scan.specs.Sets.{only}
-use Rattle.scan.proofs.Cases.{cond-in, cond-eq, by-lt}
+use Rattle.scan.proofs.Cases.{cond-in, cond-eq}
 use Rattle.escape.specs.Allows.{unicode, allowNul}
 use Rattle.escape.specs.Escape.{bytesOf}
 use Rattle.escape.specs.declared.Allowed.{Allowed}
 use Rattle.escape.specs.declared.Unescaped.{Unescaped}
 use Rattle.escape.specs.declared.Unescaped.the-variants.{Byte}
-use Rattle.body.specs.Code.{Stopped}
-use Rattle.body.specs.Step.{End, Next, piece, stop, endOf, plainOf, plainByte, rawByte, rawStepOf}
+use Rattle.body.specs.Step.{End, Next, piece, stop, endOf, plainOf, rawByte, rawStepOf}
 use Rattle.body.specs.Body.{rawBody, Measures}
 use Rattle.body.specs.declared.Measured.{Measured}
-use Rattle.body.proofs.Steps as steps
-use Rattle.body.proofs.Within.{inside, raw-in}
+use Rattle.body.proofs.Within.{raw-in}
 use Rattle.body.proofs.Bodies.{Passed, start, induct, bounds, more, measures}
-use Rattle.body.proofs.Runs.{raw-plain-step, plain-stops, behind-run, passed-to}
 
 -- a piece is the first byte
 abbrev OneByte : List ℕ → Next → Type 0
@@ -49,11 +46,6 @@ pub take-one : (s : List ℕ) → 0 < length s → take 1 s ≡ getD s 0 0 ∷ [
 take-one [] h = absurd (omega arith)
 take-one (b ∷ s) h = ap (λ (l : List ℕ). b ∷ l) (take-none s)
 
--- a loop over a raw body stands at i, where a run of bytes that stand for themselves has ended
-pub record RawAt (k : Allowed) (h : ℕ) (s : List ℕ) (i : ℕ) : Type 0 where
-  pub passed : Passed (rawStepOf k h) s i (take i s)
-  pub stops : Stops (plainByte k) (drop i s)
-
 module _ (k : Allowed) (h : ℕ) where
   -- a piece stands for the bytes that it has
   itself : (s : List ℕ) (n : ℕ) (u : Unescaped) → rawStepOf k h s ≡ piece n u → 0 < length s → bytesOf u ≡ take n s
@@ -71,52 +63,19 @@ module _ (k : Allowed) (h : ℕ) where
 
   -- ---- a loop over a raw body, which stands at i
 
-  raw-start : (s : List ℕ) → Passed (rawStepOf k h) s 0 (take 0 s)
+  pub raw-start : (s : List ℕ) → Passed (rawStepOf k h) s 0 (take 0 s)
   raw-start s = rw (take-none s) (start (rawStepOf k h) s)
 
-  raw-run : {s : List ℕ} {i : ℕ} (e : ℕ) → Passed (rawStepOf k h) s i (take i s) → e ≡ i + run (plainByte k) (drop i s)
-      → RawAt k h s e
-  raw-run {s} {i} e q g =
-      let back : i + (e - i) ≡ e = omega arith in
-      let whole : take i s ++ take (e - i) (drop i s) ≡ take e s = sym (take-add i (e - i) s) ∙ ap (λ (n : ℕ). take n s) back in
-      record {
-        passed = rw whole at (passed-to (rawStepOf k h) (plainByte k) (raw-plain-step k h) e q g);
-        stops = behind-run (plainByte k) s i e g;
-      }
-
-  raw-more : {s : List ℕ} {i : ℕ} (n : ℕ) (u : Unescaped) → Passed (rawStepOf k h) s i (take i s) → rawStepOf k h (drop i s) ≡ piece n u
+  -- it goes on by one piece
+  pub raw-more : {s : List ℕ} {i : ℕ} (n : ℕ) (u : Unescaped) → Passed (rawStepOf k h) s i (take i s) → rawStepOf k h (drop i s) ≡ piece n u
       → Passed (rawStepOf k h) s (i + n) (take (i + n) s)
   raw-more {s} {i} n u q g =
       let b = bounds (rawStepOf k h) (h + 1) (raw-in k h) q n u g in
       let whole : take i s ++ bytesOf u ≡ take (i + n) s = rw (itself (drop i s) n u g (omega (arith, b, length-drop i s))) (sym (take-add i n s)) in
       rw whole at (more (rawStepOf k h) (h + 1) (raw-in k h) q n u g)
 
-  -- behind the run in front
-  pub raw-first : (s : List ℕ) (e : ℕ) → e ≡ 0 + run (plainByte k) (drop 0 s) → RawAt k h s e
-  raw-first s e g = raw-run e (raw-start s) g
-
-  module _ {s : List ℕ} {i : ℕ} (q : RawAt k h s i) where
-    -- behind a byte that stands for itself here, and the run that follows
-    pub raw-next : (u : Unescaped) (e : ℕ) → rawStepOf k h (drop i s) ≡ piece 1 u → e ≡ i + 1 + run (plainByte k) (drop (i + 1) s)
-        → RawAt k h s e
-    raw-next u e g r = raw-run e (raw-more 1 u (q .passed) g) r
-
-    -- a byte that is no quote and no backslash ends the body
-    pub raw-stops : (getD s i 0 ≡ 34 → ⊥) → (getD s i 0 ≡ 92 → ⊥) → Stopped (rawStepOf k h (drop i s))
-    raw-stops quote backslash =
-        by-lt i (length s)
-        (λ l. rw (← (steps.raw-plain k h s i l quote)) (plain-stops k (getD s i 0) (rw (drop-cons s i 0 l) at (q .stops)) backslash))
-        (λ l. rw (← (steps.raw-end k h s i l)) tt)
-
-    -- a backslash stands for itself
-    pub raw-backslash : getD s i 0 ≡ 92 → rawStepOf k h (drop i s) ≡ piece 1 (Byte 92)
-    raw-backslash e =
-        sym (steps.raw-plain k h s i (inside s i 92 e (omega arith)) (λ x. omega arith))
-        ∙ ap (plainOf k) e
-        ∙ sym (steps.is-plain k 92 (λ x. omega arith) (λ x. omega arith) (and-false (not (allowNul k))) (and-false (not (unicode k))))
-
-    -- the measure of the whole, where it ends
-    pub raw-measures : (x : End) → rawStepOf k h (drop i s) ≡ stop x → (m : Measured) → m .at ≡ i → m .len ≡ i → endOf (m .end) ≡ x
-        → Measures (rawBody k h s) m
-    raw-measures x g m a l w =
-        measures (rawStepOf k h) (h + 1) (raw-in k h) (q .passed) x g m a (l ∙ sym (length-take-le i s (q .passed .within))) w
+  -- the measure of the whole, where it ends
+  pub raw-measures : {s : List ℕ} {i : ℕ} → Passed (rawStepOf k h) s i (take i s) → (x : End) → rawStepOf k h (drop i s) ≡ stop x
+      → (m : Measured) → m .at ≡ i → m .len ≡ i → endOf (m .end) ≡ x → Measures (rawBody k h s) m
+  raw-measures {s} {i} q x g m a l w =
+      measures (rawStepOf k h) (h + 1) (raw-in k h) q x g m a (l ∙ sym (length-take-le i s (q .within))) w

@@ -139,7 +139,7 @@ fn byte_run(s: &[u8], from: usize, k: Allowed) -> usize
 }
 
 // The same, by blocks while there are 64 bytes.
-pub fn block_end(s: &[u8], from: usize, k: Allowed) -> usize
+fn block_end(s: &[u8], from: usize, k: Allowed) -> usize
     requires { ⌜ from ≤ length (now s) ⌝ }
     ensures { λ r. ⌜ r ≡ from + run (plainByte k) (drop from (now (s .entry))) ⌝ }
 {

@@ -10,15 +10,17 @@ use escape::Allowed;
 use escape::Unescaped;
 use scan::ByteSet;
 ghost use mathlib.Core.Path.{_≡_};
-ghost use Prim.Native.Nat.{_≤_};
+ghost use mathlib.Core.Bool.{cond};
+ghost use Prim.Native.Nat.{_+_, _-_, _≤_, _<_, min};
 ghost use lib.Dec.{leb};
-ghost use lib.ListN.{length, drop};
+ghost use lib.ListN.{length, getD, drop};
 ghost use Rattle.scan.specs.Run.{run};
 ghost use Rattle.scan.specs.Sets.{only};
 ghost use Rattle.body.specs.Code.{Stopped};
 ghost use Rattle.body.specs.Step.{stop, endOf, nextOf, rawStepOf};
 ghost use Rattle.body.specs.Body.{rawBody, Measures};
 ghost use Rattle.body.specs.Quote.{quoteOf, rawOf};
+ghost use Rattle.raw.specs.Scan.{rawPlain, markOf, passes, flags, rawRun};
 
 // What stands at i of a raw body with h hashes.
 fn raw_step(s: &[u8], i: usize, h: usize, k: Allowed) -> Step
@@ -69,33 +71,159 @@ fn raw_ending_at(s: &[u8], at: usize, h: usize, k: Allowed) -> Ending
     why
 }
 
-// The body of a raw string with h hashes. It stands for its own bytes, so that its length is where it ends.
+// What stands h bytes behind a quote that closes.
+fn closing_mark(h: usize) -> u8
+    ensures { λ r. ⌜ r ≡ markOf h ⌝ }
+{
+    if h == 0 { b'"' } else { b'#' }
+}
+
+// Whether a raw body may hold a byte.
+fn is_raw_plain(b: u8, k: Allowed) -> bool
+    ensures { λ r. ⌜ r ≡ rawPlain k b ⌝ }
+{
+    if 34 < b {
+        if b < 128 {
+            return true;
+        }
+        return k.unicode();
+    }
+    if b == b'\r' {
+        return false;
+    }
+    if b == 0 {
+        return k.allow_nul();
+    }
+    true
+}
+
+// Whether the byte at i is passed over: a quote is, where h bytes behind it the mark does not stand.
+fn passes_at(s: &[u8], i: usize, h: usize, mark: u8, k: Allowed) -> bool
+    requires { ⌜ (i < length (now s)) × (h ≤ 255) ⌝ }
+    ensures { λ r. ⌜ r ≡ passes k mark (getD (now (s .entry)) i 0) (getD (now (s .entry)) (i + h) 0) ⌝ }
+{
+    let b = s[i];
+    if !is_raw_plain(b, k) {
+        return false;
+    }
+    if b != b'"' {
+        return true;
+    }
+    scan::byte_at(s, i + h) != mark
+}
+
+// Where the bytes end that are passed over, byte by byte, at `stop` at the latest.
+fn scan_to(s: &[u8], from: usize, stop: usize, h: usize, mark: u8, k: Allowed) -> usize
+    requires { ⌜ (from ≤ stop) × ((stop ≤ length (now s)) × (h ≤ 255)) ⌝ }
+    ensures { λ r. ⌜ r ≡ from + min (stop - from) (rawRun k h mark (drop from (now (s .entry)))) ⌝ }
+{
+    let mut i = from;
+    while i < stop {
+        if !passes_at(s, i, h, mark, k) {
+            return i;
+        }
+        i += 1;
+    }
+    i
+}
+
+fn one(b: bool) -> u8
+    ensures { λ r. ⌜ r ≡ cond b 1 0 ⌝ }
+{
+    if b { 1 } else { 0 }
+}
+
+// Where a byte at j stands in the way of a scan over 64 bytes, or 64. Both tests of a quote are made in any case: with no byte read under a
+// branch the compiler makes vectors of the loop.
+fn raw_place(b: u8, far: u8, j: u8, mark: u8, k: Allowed) -> u8
+    ensures { λ r. ⌜ r ≡ cond (passes k mark b far) 64 j ⌝ }
+{
+    if one(b == b'"') + one(far == mark) == 2 {
+        return j;
+    }
+    if is_raw_plain(b, k) { 64 } else { j }
+}
+
+// Where the bytes end that are passed over, in 64 bytes; `far` are the bytes h behind them.
+fn raw_block_run(s: &[u8], far: &[u8], mark: u8, k: Allowed) -> u8
+    requires { ⌜ (length (now s) ≡ 64) × (length (now far) ≡ 64) ⌝ }
+    ensures { λ r. ⌜ r ≡ run (only 1) (flags k mark (now (s .entry)) (now (far .entry))) ⌝ }
+{
+    let mut m: u8 = 64;
+    let mut j: u8 = 0;
+    while j < 64 {
+        m = scan::smaller(m, raw_place(s[j as usize], far[j as usize], j, mark, k));
+        j += 1;
+    }
+    m
+}
+
+// Where the bytes end that are passed over, by blocks while there are 64 bytes and h behind them.
+fn raw_block_end(s: &[u8], from: usize, h: usize, mark: u8, k: Allowed) -> usize
+    requires { ⌜ (from ≤ length (now s)) × (h ≤ 255) ⌝ }
+    ensures { λ r. ⌜ r ≡ from + rawRun k h mark (drop from (now (s .entry))) ⌝ }
+{
+    let mut i = from;
+    while 64 + h <= s.len() - i {
+        let e = i + 64;
+        let a = i + h;
+        let z = e + h;
+        let m = raw_block_run(&s[i..e], &s[a..z], mark, k);
+        if m < 64 {
+            return i + m as usize;
+        }
+        i = e;
+    }
+    scan_to(s, i, s.len(), h, mark, k)
+}
+
+// An offset and 32, or the end where that is nearer.
+fn nearer(from: usize, len: usize) -> usize
+    requires { ⌜ from ≤ len ⌝ }
+    ensures { λ r. ⌜ r ≡ from + min 32 (len - from) ⌝ }
+{
+    if len - from < 32 { len } else { from + 32 }
+}
+
+// Where the bytes end that are passed over. A short way pays for no block.
+fn raw_end(s: &[u8], from: usize, h: usize, mark: u8, k: Allowed) -> usize
+    requires { ⌜ (from ≤ length (now s)) × (h ≤ 255) ⌝ }
+    ensures { λ r. ⌜ r ≡ from + rawRun k h mark (drop from (now (s .entry))) ⌝ }
+{
+    let stop = nearer(from, s.len());
+    let i = scan_to(s, from, stop, h, mark, k);
+    if i < stop {
+        return i;
+    }
+    raw_block_end(s, i, h, mark, k)
+}
+
+// The body of a raw string with h hashes, which are counted at the quotes alone that have the mark behind them. It stands for its own
+// bytes, so that its length is where it ends.
 fn measure_raw(s: &[u8], h: usize, k: Allowed) -> Measured
+    requires { ⌜ h ≤ 255 ⌝ }
     ensures { λ r. ⌜ Measures (rawBody k h (now (s .entry))) r ⌝ }
 {
-    let mut e = body::block_end(s, 0, k);
+    let mark = closing_mark(h);
+    let mut i = 0;
     loop {
-        let b = scan::byte_at(s, e);
-        if b == b'"' {
-            let next = e + 1;
-            if has_hashes(s, next, h) {
-                return Measured {
-                    at: e,
-                    len: e,
-                    end: Ending::Close,
-                };
-            }
-            e = body::plain_end(s, next, k);
-            continue;
-        }
-        if b != b'\\' {
+        let e = raw_end(s, i, h, mark, k);
+        if scan::byte_at(s, e) != b'"' {
             return Measured {
                 at: e,
                 len: e,
                 end: raw_ending_at(s, e, h, k),
             };
         }
-        e = body::plain_end(s, e + 1, k);
+        let next = e + 1;
+        if has_hashes(s, next, h) {
+            return Measured {
+                at: e,
+                len: e,
+                end: Ending::Close,
+            };
+        }
+        i = next;
     }
 }
 

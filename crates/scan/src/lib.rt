@@ -2,6 +2,7 @@
 ghost use mathlib.Core.Path.{_≡_};
 ghost use mathlib.Core.Bool.{cond};
 ghost use Prim.Native.Nat.{_+_, _≤_};
+ghost use lib.Dec.{ltb};
 ghost use lib.ListN.{length, drop, getD};
 ghost use Rattle.scan.specs.Byte.{byteOf};
 ghost use Rattle.scan.specs.Run.{run, outs};
@@ -35,6 +36,13 @@ pub fn byte_at(s: &[u8], i: usize) -> u8
     ensures { λ r. ⌜ r ≡ getD (now (s .entry)) i 0 ⌝ }
 {
     if i < s.len() { s[i] } else { 0 }
+}
+
+// The smaller of two numbers.
+pub fn smaller(a: u8, b: u8) -> u8
+    ensures { λ r. ⌜ r ≡ cond (ltb b a) b a ⌝ }
+{
+    if b < a { b } else { a }
 }
 
 // Whether two texts are the same bytes.

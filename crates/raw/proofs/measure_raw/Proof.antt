@@ -3,95 +3,85 @@
 use borrow.Author.Needs.{needs}
 use mathlib.Core.Path.{_≡_, refl, sym, _∙_}
 use mathlib.Core.List.{List}
-use Prim.Native.Nat.{ℕ, _<_, _-_}
+use Prim.Native.Nat.{ℕ, _+_, _-_, _<_}
 use native.Mathlib.Omega.{arith}
 use borrow.Author.Tests.{leb-true, leb-false}
-use lib.ListN.{length, getD}
+use lib.ListN.{length, getD, take, drop}
+use Rattle.body.specs.Step.{rawStepOf}
 use Rattle.body.proofs.Steps as steps
 use Rattle.body.proofs.Within.{inside}
-use Rattle.body.proofs.Raws as raws
+use Rattle.body.proofs.Bodies.{Passed}
+use Rattle.body.proofs.Raws.{raw-start, raw-more, raw-measures}
+use Rattle.raw.specs.Scan.{markOf, rawRun}
+use Rattle.raw.proofs.Passes.{passed-scan, scan-ends}
 use Rattle.raw.proofs.measure_raw.Statement.{statement}
 use Rattle.raw.proofs.measure_raw.Tie as tie
 
--- the loop stands where a run has ended
+-- what is passed stands for itself
 abbrev Inv-loop : tie.InvT-loop
-Inv-loop s h k e₀ e = raws.RawAt k h s e
+Inv-loop s h k mark i₀ i = Passed (rawStepOf k h) s i (take i s)
 
 abbrev μ-loop : tie.MeasureT-loop
-μ-loop s h k e₀ e = length s - e
+μ-loop s h k mark i₀ i = length s - i
 
--- the text, and the byte there
-abbrev text : tie.After-byte-at Inv-loop μ-loop → List ℕ
-text b = b .before .before .before .before .args .s .now
+-- the text, and where a scan ends in it
+abbrev text : tie.After-raw-end Inv-loop μ-loop → List ℕ
+text r = r .before .before .before .before .args .s .now
 
-abbrev at : tie.After-byte-at Inv-loop μ-loop → ℕ
-at b = b .before .loop .e
+abbrev at : tie.After-raw-end Inv-loop μ-loop → ℕ
+at r = r .raw-end .result
 
-quote : (c : tie.Then1 Inv-loop μ-loop) → getD (text (c .before)) (at (c .before)) 0 ≡ 34
-quote c = sym (c .before .byte-at .ensures) ∙ c .if1 .taken
+way : (r : tie.After-raw-end Inv-loop μ-loop) → let a = r .before .before .before .before .args in at r ≡ r .before .loop .i + rawRun (a .k) (a .h) (markOf (a .h)) (drop (r .before .loop .i) (text r))
+way r = rw (r .before .before .closing-mark .ensures) at (r .raw-end .ensures)
 
-quote-inside : (c : tie.Then1 Inv-loop μ-loop) → at (c .before) < length (text (c .before))
-quote-inside c = inside (text (c .before)) _ 34 (quote c) (omega arith)
+passed : (r : tie.After-raw-end Inv-loop μ-loop) → let a = r .before .before .before .before .args in Passed (rawStepOf (a .k) (a .h)) (text r) (at r) (take (at r) (text r))
+passed r = passed-scan _ _ _ _ _ (way r) (r .before .loop .inv)
 
-backslash : (c : tie.Else3 Inv-loop μ-loop) → getD (text (c .before .before)) (at (c .before .before)) 0 ≡ 92
-backslash c = sym (c .before .before .byte-at .ensures) ∙ c .if3 .left
+quote : (c : tie.Else1 Inv-loop μ-loop) → getD (text (c .before .before)) (at (c .before .before)) 0 ≡ 34
+quote c = sym (c .before .byte-at .ensures) ∙ c .if1 .left
 
-backslash-inside : (c : tie.Else3 Inv-loop μ-loop) → at (c .before .before) < length (text (c .before .before))
-backslash-inside c = inside (text (c .before .before)) _ 92 (backslash c) (omega arith)
+quote-inside : (c : tie.Else1 Inv-loop μ-loop) → at (c .before .before) < length (text (c .before .before))
+quote-inside c = inside (text (c .before .before)) _ 34 (quote c) (omega arith)
 
-block-end-requires : tie.Need-block-end-requires Inv-loop μ-loop
-block-end-requires c κs = search needs
+closing-mark-requires : tie.Need-closing-mark-requires Inv-loop μ-loop
+closing-mark-requires c κs = search needs
 
 loop-holds : tie.Need-loop-holds Inv-loop μ-loop
-loop-holds c = raws.raw-first _ _ _ _ (c .block-end .ensures)
+loop-holds c = raw-start _ _ _
+
+raw-end-requires : tie.Need-raw-end-requires Inv-loop μ-loop
+raw-end-requires c κs = (c .loop .inv .within, c .before .before .before .pre)
 
 byte-at-requires : tie.Need-byte-at-requires Inv-loop μ-loop
 byte-at-requires c κs = search needs
 
+raw-ending-at-requires : tie.Need-raw-ending-at-requires Inv-loop μ-loop
+raw-ending-at-requires c κs =
+    scan-ends _ _ _ _ _ (way (c .before .before)) (λ e. c .if1 .taken (c .before .byte-at .ensures ∙ e))
+
+returns : tie.Need-returns Inv-loop μ-loop
+returns c = raw-measures _ _ (passed (c .before .before .before)) _ (sym (c .raw-ending-at .ensures)) _ refl refl refl
+
 add-next : tie.Need-add-next Inv-loop μ-loop
-add-next c = omega (arith, quote-inside c, c .before .before .before .before .before .good)
+add-next c = omega (arith, quote-inside c, c .before .before .before .before .before .before .good)
 
 has-hashes-requires : tie.Need-has-hashes-requires Inv-loop μ-loop
 has-hashes-requires c κs = omega (arith, quote-inside c)
 
-returns : tie.Need-returns Inv-loop μ-loop
-returns c =
+returns-2 : tie.Need-returns-2 Inv-loop μ-loop
+returns-2 c =
     let b = c .before .before in
-    raws.raw-measures _ _ (b .before .before .loop .inv) _
+    raw-measures _ _ (passed (b .before .before)) _
     (sym (steps.raw-close _ _ _ _ (quote-inside b) (quote b) _ refl (leb-true _ _ (sym (c .before .has-hashes .ensures) ∙ c .if2 .taken)))) _ refl refl refl
 
-plain-end-requires : tie.Need-plain-end-requires Inv-loop μ-loop
-plain-end-requires c κs = omega (arith, quote-inside (c .before .before))
-
 loop-less : tie.Need-loop-less Inv-loop μ-loop
-loop-less c = omega (arith, quote-inside (c .before .before .before), c .plain-end .ensures)
+loop-less c = omega (arith, quote-inside (c .before .before), way (c .before .before .before .before))
 
 loop-again : tie.Need-loop-again Inv-loop μ-loop
 loop-again c =
-    let b = c .before .before .before in
-    raws.raw-next _ _ (b .before .before .loop .inv) _ _
-    (sym (steps.raw-quote _ _ _ _ (quote-inside b) (quote b) _ refl (leb-false _ _ (sym (c .before .before .has-hashes .ensures) ∙ c .before .if2 .left))))
-    (c .plain-end .ensures)
-
-raw-ending-at-requires : tie.Need-raw-ending-at-requires Inv-loop μ-loop
-raw-ending-at-requires c κs =
     let b = c .before .before in
-    raws.raw-stops _ _ (b .before .loop .inv) (λ e. c .before .if1 .left (b .byte-at .ensures ∙ e)) (λ e. c .if3 .taken (b .byte-at .ensures ∙ e))
-
-returns-2 : tie.Need-returns-2 Inv-loop μ-loop
-returns-2 c = raws.raw-measures _ _ (c .before .before .before .before .loop .inv) _ (sym (c .raw-ending-at .ensures)) _ refl refl refl
-
-add-plain-end : tie.Need-add-plain-end Inv-loop μ-loop
-add-plain-end c = omega (arith, backslash-inside c, c .before .before .before .before .before .before .good)
-
-plain-end-requires-2 : tie.Need-plain-end-requires-2 Inv-loop μ-loop
-plain-end-requires-2 c κs = omega (arith, backslash-inside c)
-
-loop-less-2 : tie.Need-loop-less-2 Inv-loop μ-loop
-loop-less-2 c = omega (arith, backslash-inside (c .before), c .plain-end2 .ensures)
-
-loop-again-2 : tie.Need-loop-again-2 Inv-loop μ-loop
-loop-again-2 c = raws.raw-next _ _ (c .before .before .before .before .loop .inv) _ _ (raws.raw-backslash _ _ (c .before .before .before .before .loop .inv) (backslash (c .before))) (c .plain-end2 .ensures)
+    raw-more _ _ _ _ (passed (b .before .before))
+    (sym (steps.raw-quote _ _ _ _ (quote-inside b) (quote b) _ refl (leb-false _ _ (sym (c .before .has-hashes .ensures) ∙ c .if2 .left))))
 
 pub measure-raw-spec : {M : Type 1} → statement M
 measure-raw-spec =
@@ -99,18 +89,14 @@ measure-raw-spec =
     (tie.spec
     Inv-loop
     μ-loop
-    block-end-requires
+    closing-mark-requires
     loop-holds
+    raw-end-requires
     byte-at-requires
+    raw-ending-at-requires
+    returns
     add-next
     has-hashes-requires
-    returns
-    plain-end-requires
-    loop-less
-    loop-again
-    raw-ending-at-requires
     returns-2
-    add-plain-end
-    plain-end-requires-2
-    loop-less-2
-    loop-again-2)
+    loop-less
+    loop-again)

@@ -1,0 +1,46 @@
+-- `raw::is_raw_plain` meets its contract.
+-- Assumes nothing.
+use mathlib.Core.Path.{_∙_}
+use native.Mathlib.Omega.{arith}
+use borrow.Author.Needs.{needs}
+use borrow.Author.Tests.{eq-eqb, ne-eqb, lt-ltb, le-ltb}
+use Rattle.raw.specs.Scan.{rawPlain}
+use Rattle.raw.proofs.is_raw_plain.Statement.{statement}
+use Rattle.raw.proofs.is_raw_plain.Tie as tie
+
+returns : tie.Need-returns
+unfolding rawPlain
+returns c =
+    let b = c .before .before .args .b in
+    rw (ne-eqb b 13 (λ x. omega arith), ne-eqb b 0 (λ x. omega arith), le-ltb 127 b (omega arith))
+
+unicode-requires : tie.Need-unicode-requires
+unicode-requires c κs = search needs
+
+returns-2 : tie.Need-returns-2
+unfolding rawPlain
+returns-2 c =
+    let b = c .before .before .before .args .b in
+    c .unicode .ensures ∙ rw (ne-eqb b 13 (λ x. omega arith), ne-eqb b 0 (λ x. omega arith), lt-ltb 127 b (omega arith))
+
+returns-3 : tie.Need-returns-3
+unfolding rawPlain
+returns-3 c = rw (eq-eqb _ _ (c .if3 .taken))
+
+allow-nul-requires : tie.Need-allow-nul-requires
+allow-nul-requires c κs = search needs
+
+returns-4 : tie.Need-returns-4
+unfolding rawPlain
+returns-4 c = c .allow-nul .ensures ∙ rw (ne-eqb _ _ (c .before .before .if3 .left), eq-eqb _ _ (c .before .if4 .taken))
+
+returns-5 : tie.Need-returns-5
+unfolding rawPlain
+returns-5 c =
+    let b = c .before .before .before .args .b in
+    rw (ne-eqb b 13 (c .before .if3 .left), ne-eqb b 0 (c .if4 .left), le-ltb 127 b (omega arith))
+
+pub is-raw-plain-spec : {M : Type 1} → statement M
+is-raw-plain-spec =
+    tie.close
+    (tie.spec returns unicode-requires returns-2 returns-3 allow-nul-requires returns-4 returns-5)

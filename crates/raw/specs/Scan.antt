@@ -1,0 +1,32 @@
+-- The bytes of a raw body that a scan passes over without counting hashes.
+-- Assumes nothing.
+use Prim.Native.Nat.{ℕ}
+use mathlib.Core.Bool.{Bool, true, false, cond, not, _&&_}
+use mathlib.Core.List.{List, [], _∷_}
+use lib.Dec.{eqb, ltb}
+use lib.ListN.{getD, drop}
+use Rattle.scan.specs.Run.{run}
+use Rattle.scan.specs.Sets.{only}
+use Rattle.escape.specs.Allows.{unicode, allowNul}
+use Rattle.escape.specs.declared.Allowed.{Allowed}
+
+-- a byte that a raw body may hold: no CR, and no NUL or byte above 127 where the kind has none
+unfoldable pub rawPlain : Allowed → ℕ → Bool
+rawPlain k b = cond (eqb b 13) false (cond (eqb b 0) (allowNul k) (cond (ltb 127 b) (unicode k) true))
+
+-- what stands h bytes behind a quote that closes: with no hashes the quote itself, else the last hash
+unfoldable pub markOf : ℕ → ℕ
+markOf h = cond (eqb h 0) 34 35
+
+-- a byte b is passed over, unless it is a quote and the byte `far`, h bytes behind it, is the mark m
+unfoldable pub passes : Allowed → ℕ → ℕ → ℕ → Bool
+passes k m b far = cond (rawPlain k b) (not (eqb b 34 && eqb far m)) false
+
+-- byte by byte 1 where it is passed over and else 0; t starts h bytes behind s
+abbrev pub flags : Allowed → ℕ → List ℕ → List ℕ → List ℕ
+flags k m [] t = []
+flags k m (b ∷ s) t = cond (passes k m b (getD t 0 0)) 1 0 ∷ flags k m s (drop 1 t)
+
+-- how many bytes at the front are passed over, where there are h hashes
+abbrev pub rawRun : Allowed → ℕ → ℕ → List ℕ → ℕ
+rawRun k h m s = run (only 1) (flags k m s (drop h s))
