@@ -1,4 +1,4 @@
--- The code of a step: any but 0 is that of the piece that stands there; where it is 0 and no byte stands for itself, the body ends.
+-- The code of a step: any but 0 is that of the piece that a backslash starts.
 -- Assumes nothing.
 use mathlib.Core.Path.{_≡_, refl, ap, sym, _∙_, subst}
 use mathlib.Core.Bool.{Bool, true, false, cond, not, _&&_}
@@ -6,11 +6,11 @@ use mathlib.Core.List.{List, [], _∷_}
 use Prim.Native.Nat.{ℕ, _+_, _-_, _*_, _≤_, _<_}
 use native.Mathlib.Nat.{add-zero}
 use native.Mathlib.Omega.{arith}
-use borrow.Author.Tests.{eq-eqb, ne-eqb, eqb-true, eqb-false}
+use borrow.Author.Tests.{eq-eqb, ne-eqb}
 use lib.Dec.{eqb, ltb}
 use lib.ListN.{length, getD, take, drop, length-take, length-drop}
 use lib.Seq.{drop-cons, drop-drop, getD-drop, getD-take}
-use Rattle.scan.specs.Run.{run, Stops}
+use Rattle.scan.specs.Run.{run}
 use Rattle.scan.proofs.Cases.{cond-in, cond-lt, cond-eq}
 use Rattle.parse.specs.Class.{classOf}
 use Rattle.parse.specs.Sets.{blank}
@@ -22,21 +22,20 @@ use Rattle.escape.specs.Code.{pieceCode, escapeCode, codedLen, codedValue}
 use Rattle.escape.specs.declared.Allowed.{Allowed}
 use Rattle.escape.specs.declared.Unescaped.the-variants.{Byte}
 use Rattle.escape.proofs.Escapes.{too-short}
-use Rattle.escape.proofs.Codes.{Coded, code-len, code-value, code-some, EscapeCoded, escape-coded}
-use Rattle.body.specs.Step.{Next, piece, stop, ofEscape, lineBreakOf, backslashOf, plainOf, plainByte, stepOf}
-use Rattle.body.specs.Code.{nextCode, codeOf, Stopped}
+use Rattle.escape.proofs.Codes.{Coded, code-len, code-value, EscapeCoded, escape-coded}
+use Rattle.body.specs.Step.{Next, piece, stop, ofEscape, lineBreakOf, backslashOf, plainOf, stepOf}
+use Rattle.body.specs.Code.{nextCode, codeOf}
 use Rattle.body.proofs.Steps as steps
 use Rattle.body.proofs.Within.{inside}
-use Rattle.body.proofs.Runs.{plain-stops}
 
 -- ---- what a code tells
 
 -- a piece is not empty, and what it stands for has a code of its own
-abbrev NextCoded : Next → Type 0
+abbrev pub NextCoded : Next → Type 0
 NextCoded (piece n u) = (0 < n) × Coded u
 NextCoded (stop e) = Unit {0}
 
-backslash-coded : (k : Allowed) (s : List ℕ) → NextCoded (backslashOf k s)
+pub backslash-coded : (k : Allowed) (s : List ℕ) → NextCoded (backslashOf k s)
 unfolding backslashOf lineBreakOf
 backslash-coded k s =
     let rest : List ℕ = drop 2 s in
@@ -50,7 +49,7 @@ backslash-coded k s =
 
 -- a code other than 0 is that of the piece that a backslash starts
 module _ (k : Allowed) (s : List ℕ) (c : ℕ) (e : c ≡ codeOf k s) (z : c ≡ 0 → ⊥) where
-  code-piece : (stepOf k s ≡ backslashOf k s) × (backslashOf k s ≡ piece (codedLen c) (codedValue c))
+  pub code-piece : (stepOf k s ≡ backslashOf k s) × (backslashOf k s ≡ piece (codedLen c) (codedValue c))
   unfolding codeOf stepOf
   code-piece = by-front s e
     where
@@ -70,20 +69,6 @@ module _ (k : Allowed) (s : List ℕ) (c : ℕ) (e : c ≡ codeOf k s) (z : c �
   -- THE LAW of such a code
   pub code-step : stepOf k s ≡ piece (codedLen c) (codedValue c)
   code-step = code-piece .0 ∙ code-piece .1
-
--- and of 0
-pub code-stops : (k : Allowed) (s : List ℕ) → codeOf k s ≡ 0 → Stops (plainByte k) s → Stopped (stepOf k s)
-unfolding codeOf stepOf
-code-stops k [] e h = tt
-code-stops k (b ∷ s) e h = by-test (eqb b 92) refl e
-  where
-    of-next : (x : Next) → NextCoded x → nextCode x ≡ 0 → Stopped x
-    of-next (piece n u) c e = absurd (code-some n u (c .0) e)
-    of-next (stop w) c e = tt
-
-    by-test : (t : Bool) → eqb b 92 ≡ t → cond t (nextCode (backslashOf k (b ∷ s))) 0 ≡ 0 → Stopped (cond t (backslashOf k (b ∷ s)) (plainOf k b))
-    by-test true q e = of-next (backslashOf k (b ∷ s)) (backslash-coded k (b ∷ s)) e
-    by-test false q e = plain-stops k b h (eqb-false b 92 q)
 
 -- ---- `\x`
 
@@ -112,10 +97,10 @@ backslash-x k s e =
     (λ b. tt))))
 
 -- where `x` stands behind the backslash
-pub code-x : (k : Allowed) (s : List ℕ) (i c : ℕ) → c ≡ codeOf k (drop i s) → (c ≡ 0 → ⊥) → eqb (getD s (i + 1) 0) 120 ≡ true
+pub code-x : (k : Allowed) (s : List ℕ) (i c : ℕ) → c ≡ codeOf k (drop i s) → (c ≡ 0 → ⊥) → getD s (i + 1) 0 ≡ 120
     → (codedLen c ≡ 4) × (length (bytesOf (codedValue c)) ≡ 1)
 code-x k s i c e z x =
-    subst Four (code-piece k (drop i s) c e z .1) (backslash-x k (drop i s) (getD-drop i s 1 0 ∙ eqb-true _ _ x))
+    subst Four (code-piece k (drop i s) c e z .1) (backslash-x k (drop i s) (getD-drop i s 1 0 ∙ x))
 
 -- ---- one law for each way to a code, at an offset
 
@@ -140,7 +125,7 @@ module _ (k : Allowed) (s : List ℕ) (i : ℕ) where
     at-other e = rw (drop-cons s i 0 l, ne-eqb _ _ e)
 
     module _ (e : getD s i 0 ≡ 92) where
-      at-backslash : nextCode (backslashOf k (drop i s)) ≡ codeOf k (drop i s)
+      pub at-backslash : nextCode (backslashOf k (drop i s)) ≡ codeOf k (drop i s)
       unfolding codeOf
       at-backslash = rw (drop-cons s i 0 l, eq-eqb _ _ e)
 
@@ -163,11 +148,11 @@ module _ (k : Allowed) (s : List ℕ) (i : ℕ) where
 
       -- an escape, which sees what stands before `end`
       module _ (f : getD s (i + 1) 0 ≡ 10 → ⊥) (end : ℕ) (is : end ≡ length s - lastLen s) where
-        seen : front (drop i s) ≡ take (end - i) (drop i s)
+        pub seen : front (drop i s) ≡ take (end - i) (drop i s)
         unfolding tail
         seen = front-drop s i l (ap tail e) ∙ ap (λ (n : ℕ). take (n - i) (drop i s)) (sym is)
 
-        other : getD (drop i s) 1 0 ≡ 10 → ⊥
+        pub other : getD (drop i s) 1 0 ≡ 10 → ⊥
         other x = f (sym (getD-drop i s 1 0) ∙ x)
 
         pub at-cut : end ≤ i + 1 → 0 ≡ codeOf k (drop i s)

@@ -4,6 +4,7 @@ pub mod Bodies
 pub mod Blocks
 pub mod Runs
 pub mod Codes
+pub mod Strides
 pub mod Raws
 pub mod Values
 pub mod Strings

@@ -113,7 +113,7 @@ module _ (step : List ℕ → Next) (p : ℕ → Bool) (law : (b : ℕ) (s : Lis
           ∙ sym (bodies.body-piece step (b ∷ s) 1 (Byte b) (law b s e) (omega arith) (omega arith))
 
   -- a loop that stands at i passes the run there at once
-  passed-run : {s : List ℕ} {i : ℕ} {v : List ℕ} (n : ℕ) → bodies.Passed step s i v → n ≡ run p (drop i s)
+  pub passed-run : {s : List ℕ} {i : ℕ} {v : List ℕ} (n : ℕ) → bodies.Passed step s i v → n ≡ run p (drop i s)
       → bodies.Passed step s (i + n) (v ++ take n (drop i s))
   passed-run {s} {i} {v} n q e = record {
     within = omega (arith, bound, length-drop i s, q .within);

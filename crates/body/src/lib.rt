@@ -10,15 +10,15 @@ use parse::ClassSet;
 use parse::Suffix;
 ghost use mathlib.Core.Path.{_≡_};
 ghost use mathlib.Core.Bool.{cond};
-ghost use Prim.Native.Nat.{_+_, _-_, _≤_, _<_};
-ghost use lib.Dec.{eqb, ltb};
-ghost use lib.ListN.{length, getD, drop};
+ghost use Prim.Native.Nat.{_+_, _-_, _≤_, _<_, min};
+ghost use lib.ListN.{length, getD, take, drop};
 ghost use Rattle.err.specs.Reading.{hashesOf};
 ghost use Rattle.scan.specs.Run.{run};
 ghost use Rattle.buffer.specs.Buffer.{Wrote};
 ghost use Rattle.utf8.specs.Cut.{lastLen};
 ghost use Rattle.body.specs.Code.{codeOf, Stopped};
 ghost use Rattle.body.specs.Step.{stop, endOf, nextOf, lineBreakOf, backslashOf, plainOf, plainByte, stepOf};
+ghost use Rattle.body.specs.Stride.{letterAt, breakEnd, xAt, uAt, nextAt, valueIn};
 ghost use Rattle.body.specs.Body.{body, Measures, Fitting};
 ghost use Rattle.body.specs.Quote.{quoteOf, closing, suffixed, afterEnd, stringOf};
 
@@ -39,6 +39,12 @@ pub struct Measured {
     pub at: usize,
     pub len: usize,
     pub end: Ending,
+}
+
+// Where the next piece starts, 0 where there is none, and how many bytes this one stands for or was written as.
+pub struct Stride {
+    pub next: usize,
+    pub value: usize,
 }
 
 // A string, a byte string or a C string, or the refusal.
@@ -95,12 +101,6 @@ fn is_plain(b: u8, k: Allowed) -> bool
     true
 }
 
-fn smaller(a: u8, b: u8) -> u8
-    ensures { λ r. ⌜ r ≡ cond (ltb b a) b a ⌝ }
-{
-    if b < a { b } else { a }
-}
-
 // Where a byte at j stands in the way of a run over 64 bytes, or 64.
 fn place(b: u8, j: u8, k: Allowed) -> u8
     ensures { λ r. ⌜ r ≡ cond (plainByte k b) 64 j ⌝ }
@@ -117,19 +117,19 @@ fn block_run(s: &[u8], k: Allowed) -> u8
     let mut m: u8 = 64;
     let mut j: u8 = 0;
     while j < 64 {
-        m = smaller(m, place(s[j as usize], j, k));
+        m = scan::smaller(m, place(s[j as usize], j, k));
         j += 1;
     }
     m
 }
 
-// Where the run of bytes that stand for themselves ends, byte by byte.
-fn byte_run(s: &[u8], from: usize, k: Allowed) -> usize
-    requires { ⌜ from ≤ length (now s) ⌝ }
-    ensures { λ r. ⌜ r ≡ from + run (plainByte k) (drop from (now (s .entry))) ⌝ }
+// Where the run of bytes that stand for themselves ends, or `stop` where that is nearer, byte by byte.
+fn byte_run(s: &[u8], from: usize, stop: usize, k: Allowed) -> usize
+    requires { ⌜ (from ≤ stop) × (stop ≤ length (now s)) ⌝ }
+    ensures { λ r. ⌜ r ≡ from + min (stop - from) (run (plainByte k) (drop from (now (s .entry)))) ⌝ }
 {
     let mut i = from;
-    while i < s.len() {
+    while i < stop {
         if !is_plain(s[i], k) {
             return i;
         }
@@ -138,7 +138,7 @@ fn byte_run(s: &[u8], from: usize, k: Allowed) -> usize
     i
 }
 
-// The same, by blocks while there are 64 bytes.
+// Where the run ends, by blocks while there are 64 bytes.
 fn block_end(s: &[u8], from: usize, k: Allowed) -> usize
     requires { ⌜ from ≤ length (now s) ⌝ }
     ensures { λ r. ⌜ r ≡ from + run (plainByte k) (drop from (now (s .entry))) ⌝ }
@@ -152,35 +152,17 @@ fn block_end(s: &[u8], from: usize, k: Allowed) -> usize
         }
         i = e;
     }
-    byte_run(s, i, k)
+    byte_run(s, i, s.len(), k)
 }
 
-// A part of the run: at most 16 bytes.
-fn few(s: &[u8], from: usize, k: Allowed) -> usize
-    requires { ⌜ from ≤ length (now s) ⌝ }
-    ensures { λ r. ⌜ (from ≤ r) × (r ≤ length (now (s .entry))) × (r + run (plainByte k) (drop r (now (s .entry))) ≡ from + run (plainByte k) (drop from (now (s .entry)))) ⌝ }
-    ensures { λ r. ⌜ (r - from < 16 → r ≡ from + run (plainByte k) (drop from (now (s .entry)))) ⌝ }
-{
-    let mut i = from;
-    while i < s.len() {
-        if i - from == 16 {
-            return i;
-        }
-        if !is_plain(s[i], k) {
-            return i;
-        }
-        i += 1;
-    }
-    i
-}
-
-// Where the run ends. A short run pays for no block.
+// The same, where a short run pays for no block.
 pub fn plain_end(s: &[u8], from: usize, k: Allowed) -> usize
     requires { ⌜ from ≤ length (now s) ⌝ }
     ensures { λ r. ⌜ r ≡ from + run (plainByte k) (drop from (now (s .entry))) ⌝ }
 {
-    let i = few(s, from, k);
-    if i - from < 16 {
+    let near = scan::nearer(from, 16, s.len());
+    let i = byte_run(s, from, near, k);
+    if i < near {
         return i;
     }
     block_end(s, i, k)
@@ -257,14 +239,154 @@ pub fn code_at(s: &[u8], at: usize, end: usize, k: Allowed) -> u64
     escape::code(&s[at..end], k)
 }
 
-// Whether `x` stands behind the byte at an offset: the length of such an escape is known without its code, so that the next step need not
-// wait for it.
-pub fn is_x(s: &[u8], at: usize) -> bool
-    requires { ⌜ at ≤ length (now s) ⌝ }
-    ensures { λ r. ⌜ r ≡ eqb (getD (now (s .entry)) (at + 1) 0) 120 ⌝ }
+// The value of an escape of one letter, behind the backslash at an offset and before `end`; 0 where there is none.
+pub fn letter_at(s: &[u8], at: usize, end: usize) -> u8
+    requires { ⌜ (at < length (now s)) × (end ≤ length (now s)) ⌝ }
+    ensures { λ r. ⌜ r ≡ letterAt (now (s .entry)) at end ⌝ }
 {
     let next = at + 1;
-    scan::byte_at(s, next) == b'x'
+    if next < end {
+        return escape::letter(s[next]);
+    }
+    0
+}
+
+// Where the blanks behind a dropped line break end; 0 where no LF stands behind the backslash, or where the text ends there.
+pub fn break_end(s: &[u8], at: usize) -> usize
+    requires { ⌜ at < length (now s) ⌝ }
+    ensures { λ r. ⌜ r ≡ breakEnd (now (s .entry)) at ⌝ }
+{
+    let next = at + 1;
+    if scan::byte_at(s, next) != b'\n' {
+        return 0;
+    }
+    let from = at + 2;
+    let e = from + parse::blanks_len(&s[from..]);
+    if e == s.len() { 0 } else { e }
+}
+
+// The code of an escape by `x`; 0 where there is none.
+pub fn x_at(s: &[u8], at: usize, end: usize, k: Allowed) -> u64
+    requires { ⌜ (at < length (now s)) × (end ≤ length (now s)) ⌝ }
+    ensures { λ r. ⌜ r ≡ xAt k (now (s .entry)) at end ⌝ }
+{
+    let next = at + 1;
+    if end <= next {
+        return 0;
+    }
+    if s[next] == b'x' {
+        return escape::x_code(&s[at..end], k);
+    }
+    0
+}
+
+// The same by `u`.
+fn u_at(s: &[u8], at: usize, end: usize, k: Allowed) -> u64
+    requires { ⌜ (at < length (now s)) × ((length (now s) < 4294967296) × (end ≤ length (now s))) ⌝ }
+    ensures { λ r. ⌜ r ≡ uAt k (now (s .entry)) at end ⌝ }
+{
+    let next = at + 1;
+    if end <= next {
+        return 0;
+    }
+    if s[next] == b'u' {
+        return escape::u_code(&s[at..end], k);
+    }
+    0
+}
+
+// The piece that the backslash at an offset starts. Where its length is a constant, the next step need not wait for what was read.
+fn stride_at(s: &[u8], at: usize, end: usize, k: Allowed) -> Stride
+    requires { ⌜ (getD (now s) at 0 ≡ 92) × ((length (now s) < 4294967296) × (end ≡ length (now s) - lastLen (now s))) ⌝ }
+    ensures { λ r. ⌜ (r .next ≡ nextAt at (backslashOf k (drop at (now (s .entry))))) × (r .value ≡ length (valueIn (backslashOf k (drop at (now (s .entry)))))) ⌝ }
+{
+    if letter_at(s, at, end) != 0 {
+        return Stride {
+            next: at + 2,
+            value: 1,
+        };
+    }
+    let e = break_end(s, at);
+    if e != 0 {
+        return Stride { next: e, value: 0 };
+    }
+    if x_at(s, at, end, k) != 0 {
+        return Stride {
+            next: at + 4,
+            value: 1,
+        };
+    }
+    let u = u_at(s, at, end, k);
+    if u != 0 {
+        let n = escape::value_len(escape::code_value(u));
+        let len = escape::code_len(u);
+        if len == 6 {
+            return Stride {
+                next: at + 6,
+                value: n,
+            };
+        }
+        return Stride {
+            next: at + len,
+            value: n,
+        };
+    }
+    let c = code_at(s, at, end, k);
+    if c == 0 {
+        return Stride { next: 0, value: 0 };
+    }
+    Stride {
+        next: at + escape::code_len(c),
+        value: escape::value_len(escape::code_value(c)),
+    }
+}
+
+// The same, with what it stands for written to the front of out.
+fn put_piece(out: &mut [u8], s: &[u8], at: usize, end: usize, k: Allowed) -> Stride
+    requires { ⌜ (getD (now s) at 0 ≡ 92) × ((length (now s) < 4294967296) × (end ≡ length (now s) - lastLen (now s))) × (length (valueIn (backslashOf k (drop at (now s)))) ≤ length (now out)) ⌝ }
+    ensures { λ r. ⌜ (r .next ≡ nextAt at (backslashOf k (drop at (now (s .entry))))) × Wrote (valueIn (backslashOf k (drop at (now (s .entry))))) (r .value) (now (out .entry)) (now (out .exit)) ⌝ }
+{
+    let l = letter_at(s, at, end);
+    if l != 0 {
+        return Stride {
+            next: at + 2,
+            value: buffer::put_one(out, l),
+        };
+    }
+    let e = break_end(s, at);
+    if e != 0 {
+        return Stride { next: e, value: 0 };
+    }
+    let x = x_at(s, at, end, k);
+    if x != 0 {
+        return Stride {
+            next: at + 4,
+            value: escape::put_value(out, escape::code_value(x)),
+        };
+    }
+    let u = u_at(s, at, end, k);
+    if u != 0 {
+        let n = escape::put_value(out, escape::code_value(u));
+        let len = escape::code_len(u);
+        if len == 6 {
+            return Stride {
+                next: at + 6,
+                value: n,
+            };
+        }
+        return Stride {
+            next: at + len,
+            value: n,
+        };
+    }
+    let c = code_at(s, at, end, k);
+    if c == 0 {
+        return Stride { next: 0, value: 0 };
+    }
+    Stride {
+        next: at + escape::code_len(c),
+        value: escape::put_value(out, escape::code_value(c)),
+    }
 }
 
 // Why a quoted body ends where neither a piece with a code nor a byte that stands for itself is.
@@ -290,22 +412,25 @@ fn measure(s: &[u8], k: Allowed) -> Measured
     let mut i = block_end(s, 0, k);
     let mut n = i;
     loop {
-        if scan::byte_at(s, i) == b'"' {
+        let b = scan::byte_at(s, i);
+        if b == b'"' {
             return Measured {
                 at: i,
                 len: n,
                 end: Ending::Close,
             };
         }
-        let c = code_at(s, i, end, k);
-        if c != 0 {
-            if is_x(s, i) {
-                n += 1;
-                i += 4;
-                continue;
+        if b == b'\\' {
+            let t = stride_at(s, i, end, k);
+            if t.next == 0 {
+                return Measured {
+                    at: i,
+                    len: n,
+                    end: ending_at(s, i, last, k),
+                };
             }
-            n += escape::value_len(escape::code_value(c));
-            i += escape::code_len(c);
+            n += t.value;
+            i = t.next;
             continue;
         }
         let e = plain_end(s, i, k);
@@ -321,6 +446,40 @@ fn measure(s: &[u8], k: Allowed) -> Measured
     }
 }
 
+// At most 16 bytes of the run at an offset are written to the front of out, byte by byte, so that a short run pays for no call.
+fn put_few(out: &mut [u8], s: &[u8], from: usize, k: Allowed) -> usize
+    requires { ⌜ (from ≤ length (now s)) × (run (plainByte k) (drop from (now s)) ≤ length (now out)) ⌝ }
+    ensures { λ r. ⌜ Wrote (take (min 16 (run (plainByte k) (drop from (now (s .entry))))) (drop from (now (s .entry)))) r (now (out .entry)) (now (out .exit)) ⌝ }
+{
+    let mut i: usize = 0;
+    while i < s.len() - from {
+        if i == 16 {
+            return i;
+        }
+        let b = s[from + i];
+        if !is_plain(b, k) {
+            return i;
+        }
+        out[i] = b;
+        i += 1;
+    }
+    i
+}
+
+// The whole run.
+fn put_run(out: &mut [u8], s: &[u8], from: usize, k: Allowed) -> usize
+    requires { ⌜ (from ≤ length (now s)) × (run (plainByte k) (drop from (now s)) ≤ length (now out)) ⌝ }
+    ensures { λ r. ⌜ Wrote (take (run (plainByte k) (drop from (now (s .entry)))) (drop from (now (s .entry)))) r (now (out .entry)) (now (out .exit)) ⌝ }
+{
+    let n = put_few(out, s, from, k);
+    if n < 16 {
+        return n;
+    }
+    let i = from + n;
+    let e = block_end(s, i, k);
+    n + buffer::put_bytes(&mut out[n..], &s[i..e])
+}
+
 // What a quoted body stands for, up to its end, is written to the front of out.
 pub fn write_value(out: &mut [u8], s: &[u8], k: Allowed) -> usize
     requires { ⌜ (length (now s) < 4294967296) × (length (body k (now s) .value) ≤ length (now out)) ⌝ }
@@ -330,23 +489,21 @@ pub fn write_value(out: &mut [u8], s: &[u8], k: Allowed) -> usize
     let mut i = 0;
     let mut at: usize = 0;
     loop {
-        let c = code_at(s, i, end, k);
-        if c != 0 {
-            if is_x(s, i) {
-                at += escape::put_value(&mut out[at..], escape::code_value(c));
-                i += 4;
-                continue;
+        if scan::byte_at(s, i) == b'\\' {
+            let t = put_piece(&mut out[at..], s, i, end, k);
+            if t.next == 0 {
+                return at;
             }
-            at += escape::put_value(&mut out[at..], escape::code_value(c));
-            i += escape::code_len(c);
+            at += t.value;
+            i = t.next;
             continue;
         }
-        let e = plain_end(s, i, k);
-        if e == i {
+        let n = put_run(&mut out[at..], s, i, k);
+        if n == 0 {
             return at;
         }
-        at += buffer::put_bytes(&mut out[at..], &s[i..e]);
-        i = e;
+        at += n;
+        i += n;
     }
 }
 

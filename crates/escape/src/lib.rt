@@ -88,7 +88,7 @@ pub fn bars(allowed: bool, there: bool) -> bool
 }
 
 // The value of an escape of one letter other than `0`, or 0.
-fn letter(b: u8) -> u8
+pub fn letter(b: u8) -> u8
     ensures { λ r. ⌜ r ≡ letterOf b ⌝ }
 {
     match b {
@@ -263,7 +263,8 @@ fn byte_code(n: u64, b: u8) -> u64
     n * 4294967296 + 1 + b as u64
 }
 
-fn x_code(s: &[u8], k: Allowed) -> u64
+// An escape by `x` as one number, or 0 where it is refused.
+pub fn x_code(s: &[u8], k: Allowed) -> u64
     ensures { λ r. ⌜ r ≡ escapeCode (xEscape k (now (s .entry))) ⌝ }
 {
     if s.len() < 4 {
@@ -309,7 +310,8 @@ fn scalar_code(v: u32, n: usize, k: Allowed) -> u64
     n as u64 * 4294967296 + 257 + v as u64
 }
 
-fn u_code(s: &[u8], k: Allowed) -> u64
+// The same by `u`.
+pub fn u_code(s: &[u8], k: Allowed) -> u64
     requires { ⌜ length (now s) < 4294967296 ⌝ }
     ensures { λ r. ⌜ r ≡ escapeCode (uEscape k (now (s .entry))) ⌝ }
 {

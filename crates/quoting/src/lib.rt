@@ -1,16 +1,19 @@
 // The value of a quoted literal as its settled form writes it: measured, and written to the front of what is lent.
+use body::Stride;
 use escape::Allowed;
 use escape::Unescaped;
 ghost use mathlib.Core.Path.{_≡_};
 ghost use mathlib.Core.Bool.{cond};
-ghost use Prim.Native.Nat.{_+_, _-_, _*_, _≤_, _<_};
-ghost use lib.Dec.{ltb};
-ghost use lib.ListN.{length, drop};
+ghost use Prim.Native.Nat.{_+_, _-_, _*_, _≤_, _<_, min};
+ghost use lib.ListN.{length, getD, drop};
 ghost use Rattle.scan.specs.Run.{run};
 ghost use Rattle.buffer.specs.Buffer.{Wrote};
 ghost use Rattle.utf8.specs.Utf8.{Scalar, encode};
+ghost use Rattle.utf8.specs.Cut.{lastLen};
 ghost use Rattle.escape.specs.Escape.{bytesOf, Valid};
 ghost use Rattle.body.specs.Body.{body};
+ghost use Rattle.body.specs.Step.{backslashOf};
+ghost use Rattle.body.specs.Stride.{nextAt, valueIn};
 ghost use Rattle.form.specs.Escapes.{letterFor, xForm};
 ghost use Rattle.quoting.specs.Styled.{highForm, styledForm, styledForms, extraOf, extrasOf, printable, itself};
 
@@ -124,12 +127,6 @@ fn is_itself(b: u8, style: Style) -> bool
     style.wide
 }
 
-fn smaller(a: u8, b: u8) -> u8
-    ensures { λ r. ⌜ r ≡ cond (ltb b a) b a ⌝ }
-{
-    if b < a { b } else { a }
-}
-
 // Where a byte at j stands in the way of a run over 64 bytes, or 64.
 fn place(b: u8, j: u8, style: Style) -> u8
     ensures { λ r. ⌜ r ≡ cond (itself (style .wide) (style .quote) b) 64 j ⌝ }
@@ -146,19 +143,19 @@ fn block_run(s: &[u8], style: Style) -> u8
     let mut m: u8 = 64;
     let mut j: u8 = 0;
     while j < 64 {
-        m = smaller(m, place(s[j as usize], j, style));
+        m = scan::smaller(m, place(s[j as usize], j, style));
         j += 1;
     }
     m
 }
 
-// The same of the bytes from an offset, byte by byte.
-fn byte_run(s: &[u8], from: usize, style: Style) -> usize
-    requires { ⌜ from ≤ length (now s) ⌝ }
-    ensures { λ r. ⌜ r ≡ from + run (itself (style .wide) (style .quote)) (drop from (now (s .entry))) ⌝ }
+// The same of the bytes from an offset, or `stop` where that is nearer, byte by byte.
+fn byte_run(s: &[u8], from: usize, stop: usize, style: Style) -> usize
+    requires { ⌜ (from ≤ stop) × (stop ≤ length (now s)) ⌝ }
+    ensures { λ r. ⌜ r ≡ from + min (stop - from) (run (itself (style .wide) (style .quote)) (drop from (now (s .entry)))) ⌝ }
 {
     let mut i = from;
-    while i < s.len() {
+    while i < stop {
         if !is_itself(s[i], style) {
             return i;
         }
@@ -181,26 +178,7 @@ fn block_end(s: &[u8], from: usize, style: Style) -> usize
         }
         i = e;
     }
-    byte_run(s, i, style)
-}
-
-// A part of the run: at most 16 bytes.
-fn few(s: &[u8], from: usize, style: Style) -> usize
-    requires { ⌜ from ≤ length (now s) ⌝ }
-    ensures { λ r. ⌜ (from ≤ r) × (r ≤ length (now (s .entry))) × (r + run (itself (style .wide) (style .quote)) (drop r (now (s .entry))) ≡ from + run (itself (style .wide) (style .quote)) (drop from (now (s .entry)))) ⌝ }
-    ensures { λ r. ⌜ ((r - from < 16) → (r ≡ from + run (itself (style .wide) (style .quote)) (drop from (now (s .entry))))) ⌝ }
-{
-    let mut i = from;
-    while i < s.len() {
-        if i - from == 16 {
-            return i;
-        }
-        if !is_itself(s[i], style) {
-            return i;
-        }
-        i += 1;
-    }
-    i
+    byte_run(s, i, s.len(), style)
 }
 
 // Where the run of bytes that are their own forms ends. A short run pays for no block.
@@ -208,8 +186,9 @@ fn itself_end(s: &[u8], from: usize, style: Style) -> usize
     requires { ⌜ from ≤ length (now s) ⌝ }
     ensures { λ r. ⌜ r ≡ from + run (itself (style .wide) (style .quote)) (drop from (now (s .entry))) ⌝ }
 {
-    let i = few(s, from, style);
-    if i - from < 16 {
+    let near = scan::nearer(from, 16, s.len());
+    let i = byte_run(s, from, near, style);
+    if i < near {
         return i;
     }
     block_end(s, i, style)
@@ -338,13 +317,12 @@ pub fn body_len(s: &[u8], k: Allowed, style: Style) -> usize
     let mut i = 0;
     let mut n: usize = 0;
     loop {
-        let c = body::code_at(s, i, end, k);
-        if c != 0 {
-            n += value_len(escape::code_value(c), style);
-            if body::is_x(s, i) {
-                i += 4;
-                continue;
+        if scan::byte_at(s, i) == b'\\' {
+            let c = body::code_at(s, i, end, k);
+            if c == 0 {
+                return n;
             }
+            n += value_len(escape::code_value(c), style);
             i += escape::code_len(c);
             continue;
         }
@@ -357,6 +335,40 @@ pub fn body_len(s: &[u8], k: Allowed, style: Style) -> usize
     }
 }
 
+// The piece that the backslash at an offset starts, as the form has it, written to the front of out.
+fn put_piece(out: &mut [u8], s: &[u8], at: usize, end: usize, k: Allowed, style: Style) -> Stride
+    requires { ⌜ (getD (now s) at 0 ≡ 92) × ((length (now s) < 4294967296) × (end ≡ length (now s) - lastLen (now s))) × (length (styledForms (style .wide) (style .quote) (valueIn (backslashOf k (drop at (now s))))) ≤ length (now out)) ⌝ }
+    ensures { λ r. ⌜ (r .next ≡ nextAt at (backslashOf k (drop at (now (s .entry))))) × Wrote (styledForms (style .wide) (style .quote) (valueIn (backslashOf k (drop at (now (s .entry)))))) (r .value) (now (out .entry)) (now (out .exit)) ⌝ }
+{
+    let l = body::letter_at(s, at, end);
+    if l != 0 {
+        return Stride {
+            next: at + 2,
+            value: put_form(out, l, style),
+        };
+    }
+    let e = body::break_end(s, at);
+    if e != 0 {
+        return Stride { next: e, value: 0 };
+    }
+    let x = body::x_at(s, at, end, k);
+    if x != 0 {
+        return Stride {
+            next: at + 4,
+            value: put_value(out, escape::code_value(x), style),
+        };
+    }
+    let c = body::code_at(s, at, end, k);
+    if c == 0 {
+        return Stride { next: 0, value: 0 };
+    }
+    let n = put_value(out, escape::code_value(c), style);
+    Stride {
+        next: at + escape::code_len(c),
+        value: n,
+    }
+}
+
 // The value of a quoted body, piece by piece.
 pub fn put_body(out: &mut [u8], s: &[u8], k: Allowed, style: Style) -> usize
     requires { ⌜ (length (now s) ≤ 65536) × (length (styledForms (style .wide) (style .quote) (body k (now s) .value)) ≤ length (now out)) ⌝ }
@@ -366,14 +378,13 @@ pub fn put_body(out: &mut [u8], s: &[u8], k: Allowed, style: Style) -> usize
     let mut i = 0;
     let mut at: usize = 0;
     loop {
-        let c = body::code_at(s, i, end, k);
-        if c != 0 {
-            at += put_value(&mut out[at..], escape::code_value(c), style);
-            if body::is_x(s, i) {
-                i += 4;
-                continue;
+        if scan::byte_at(s, i) == b'\\' {
+            let t = put_piece(&mut out[at..], s, i, end, k, style);
+            if t.next == 0 {
+                return at;
             }
-            i += escape::code_len(c);
+            at += t.value;
+            i = t.next;
             continue;
         }
         let e = body::plain_end(s, i, k);

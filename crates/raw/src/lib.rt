@@ -177,20 +177,12 @@ fn raw_block_end(s: &[u8], from: usize, h: usize, mark: u8, k: Allowed) -> usize
     scan_to(s, i, s.len(), h, mark, k)
 }
 
-// An offset and 32, or the end where that is nearer.
-fn nearer(from: usize, len: usize) -> usize
-    requires { ⌜ from ≤ len ⌝ }
-    ensures { λ r. ⌜ r ≡ from + min 32 (len - from) ⌝ }
-{
-    if len - from < 32 { len } else { from + 32 }
-}
-
 // Where the bytes end that are passed over. A short way pays for no block.
 fn raw_end(s: &[u8], from: usize, h: usize, mark: u8, k: Allowed) -> usize
     requires { ⌜ (from ≤ length (now s)) × (h ≤ 255) ⌝ }
     ensures { λ r. ⌜ r ≡ from + rawRun k h mark (drop from (now (s .entry))) ⌝ }
 {
-    let stop = nearer(from, s.len());
+    let stop = scan::nearer(from, 32, s.len());
     let i = scan_to(s, from, stop, h, mark, k);
     if i < stop {
         return i;

@@ -1,7 +1,7 @@
 // Reading a byte or nothing, comparing two texts, and counting loops over a set of bytes.
 ghost use mathlib.Core.Path.{_≡_};
 ghost use mathlib.Core.Bool.{cond};
-ghost use Prim.Native.Nat.{_+_, _≤_};
+ghost use Prim.Native.Nat.{_+_, _-_, _≤_, min};
 ghost use lib.Dec.{ltb};
 ghost use lib.ListN.{length, drop, getD};
 ghost use Rattle.scan.specs.Byte.{byteOf};
@@ -43,6 +43,14 @@ pub fn smaller(a: u8, b: u8) -> u8
     ensures { λ r. ⌜ r ≡ cond (ltb b a) b a ⌝ }
 {
     if b < a { b } else { a }
+}
+
+// An offset that is `most` bytes further, or the end where that is nearer.
+pub fn nearer(from: usize, most: usize, end: usize) -> usize
+    requires { ⌜ from ≤ end ⌝ }
+    ensures { λ r. ⌜ r ≡ from + min most (end - from) ⌝ }
+{
+    if end - from < most { end } else { from + most }
 }
 
 // Whether two texts are the same bytes.

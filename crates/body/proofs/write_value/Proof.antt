@@ -1,24 +1,26 @@
 -- `body::write_value` meets its contract.
 -- Assumes nothing.
 use borrow.Author.Needs.{needs}
-use mathlib.Core.Path.{_≡_, sym, ap, _∙_}
+use mathlib.Core.Path.{_≡_, refl, sym, ap, _∙_, subst}
 use mathlib.Core.List.{List, [], _++_}
 use Prim.Native.Nat.{ℕ, _≤_, _<_, _-_, _+_}
 use native.Mathlib.Omega.{arith}
-use lib.ListN.{length, take, drop, length-append}
+use lib.ListN.{length, getD, take, drop, length-append, length-take}
 use borrow.Rule.Slice.PartMut.{putMid}
-use Rattle.utf8.proofs.Cuts.{last-le}
+use Rattle.scan.specs.Run.{run}
+use Rattle.scan.proofs.Runs.{run-le}
 use Rattle.buffer.specs.Buffer.{Wrote}
 use Rattle.buffer.proofs.Laws as laws
-use Rattle.escape.specs.Escape.{bytesOf, Valid}
-use Rattle.escape.specs.Code.{codedLen, codedValue}
+use Rattle.utf8.proofs.Cuts.{last-le}
 use Rattle.escape.specs.declared.Allowed.{Allowed}
-use Rattle.escape.specs.declared.Unescaped.{Unescaped}
-use Rattle.body.specs.Step.{piece, stepOf, plainByte}
+use Rattle.body.specs.Body.{body}
+use Rattle.body.specs.Step.{backslashOf, stepOf, plainByte}
+use Rattle.body.specs.Stride.{valueIn}
 use Rattle.body.proofs.Within.{step-in}
 use Rattle.body.proofs.Bodies as bodies
 use Rattle.body.proofs.Runs as runs
-use Rattle.body.proofs.Codes.{code-step, code-x, code-stops}
+use Rattle.body.proofs.Strides as strides
+use Rattle.body.proofs.Raws.{take-none}
 use Rattle.body.proofs.write_value.Statement.{statement}
 use Rattle.body.proofs.write_value.Tie as tie
 
@@ -29,7 +31,7 @@ Inv-loop out₀ s k end i₀ at₀ out i at = (v : List ℕ) × bodies.Passed (s
 abbrev μ-loop : tie.MeasureT-loop
 μ-loop out₀ s k end i₀ at₀ out i at = length s - i
 
--- the text, its kind, and the buffer as it came
+-- the text, its kind, the buffer as it came, and what is passed
 abbrev entry : tie.At-loop Inv-loop μ-loop → tie.Start Inv-loop μ-loop
 entry a = a .before .before .before .before
 
@@ -42,86 +44,107 @@ kind a = entry a .args .k
 abbrev lent : tie.At-loop Inv-loop μ-loop → List ℕ
 lent a = entry a .args .out .now
 
--- what is passed fits
-passed-fits : (a : tie.At-loop Inv-loop μ-loop) → length (a .loop .inv .0) ≤ length (lent a)
-passed-fits a = omega (arith, bodies.part _ 1 (step-in _) (a .loop .inv .1), entry a .pre .1)
+abbrev so-far : tie.At-loop Inv-loop μ-loop → List ℕ
+so-far a = a .loop .inv .0
 
 behind : (a : tie.At-loop Inv-loop μ-loop) → a .loop .at ≤ length (a .loop .out)
-behind a = laws.within (a .loop .inv .2) (passed-fits a)
+behind a = laws.within (a .loop .inv .2) (omega (arith, bodies.part _ 1 (step-in _) (a .loop .inv .1), entry a .pre .1))
 
--- ---- a piece with a code
+-- a piece more fits, and is written behind it
+module _ (a : tie.At-loop Inv-loop μ-loop) (v : List ℕ) {j : ℕ} (p : bodies.Passed (stepOf (kind a)) (text a) j (so-far a ++ v)) where
+  fits : length (so-far a) + length v ≤ length (lent a)
+  fits = omega (arith, bodies.part _ 1 (step-in _) p, length-append (so-far a) v, entry a .pre .1)
+
+  module _ (n : ℕ) (ys : List ℕ) (w : Wrote v n (take (length (a .loop .out) - a .loop .at) (drop (a .loop .at) (a .loop .out))) ys) where
+    further : Wrote (so-far a ++ v) (a .loop .at + n) (lent a) (putMid (a .loop .at) (length (a .loop .out) - a .loop .at) (a .loop .out) ys)
+    further = laws.behind (a .loop .inv .2) w fits
+
+    counts : a .loop .at + n ≤ length (lent a)
+    counts = omega (arith, further .count, length-append (so-far a) v, fits)
+
+-- ---- a backslash
 
 abbrev turn : tie.Then1 Inv-loop μ-loop → tie.At-loop Inv-loop μ-loop
 turn t = t .before .before
 
-abbrev size : tie.Then1 Inv-loop μ-loop → ℕ
-size t = codedLen (t .before .code-at .result)
+slash : (t : tie.Then1 Inv-loop μ-loop) → getD (text (turn t)) (turn t .loop .i) 0 ≡ 92
+slash t = sym (t .before .byte-at .ensures) ∙ t .if1 .taken
 
-abbrev value : tie.Then1 Inv-loop μ-loop → Unescaped
-value t = codedValue (t .before .code-at .result)
+abbrev value : tie.Then1 Inv-loop μ-loop → List ℕ
+value t = valueIn (backslashOf (kind (turn t)) (drop (turn t .loop .i) (text (turn t))))
 
-stepped : (t : tie.Then1 Inv-loop μ-loop) → stepOf (kind (turn t)) (drop (turn t .loop .i) (text (turn t))) ≡ piece (size t) (value t)
-stepped t = code-step _ _ _ (t .before .code-at .ensures) (t .if1 .taken)
+stride : (t : tie.Then1 Inv-loop μ-loop) → (j : ℕ) × bodies.Passed (stepOf (kind (turn t))) (text (turn t)) j (so-far (turn t) ++ value t)
+stride t = strides.stride-passed _ (turn t .loop .inv .1) (slash t)
 
-room : (t : tie.Then1 Inv-loop μ-loop)
-    → (0 < size t) × (turn t .loop .i + size t ≤ length (text (turn t))) × (length (bytesOf (value t)) ≤ size t) × Valid (value t)
-room t = bodies.bounds _ 1 (step-in _) (turn t .loop .inv .1) _ _ (stepped t)
+-- what the piece was written as
+abbrev piece : tie.After-struct-known Inv-loop μ-loop → tie.After-put-piece Inv-loop μ-loop
+piece c = c .before .before .before
 
-onward : (t : tie.Then1 Inv-loop μ-loop)
-    → bodies.Passed (stepOf (kind (turn t))) (text (turn t)) (turn t .loop .i + size t) (turn t .loop .inv .0 ++ bytesOf (value t))
-onward t = bodies.more _ 1 (step-in _) (turn t .loop .inv .1) _ _ (stepped t)
+abbrev piece-at : tie.After-struct-known Inv-loop μ-loop → tie.Then1 Inv-loop μ-loop
+piece-at c = piece c .before .before
 
--- its value fits too
-value-fits : (t : tie.Then1 Inv-loop μ-loop) → length (turn t .loop .inv .0) + length (bytesOf (value t)) ≤ length (lent (turn t))
-value-fits t =
-    omega (arith, bodies.part _ 1 (step-in _) (onward t), length-append (turn t .loop .inv .0) (bytesOf (value t)), entry (turn t) .pre .1)
+ended : (c : tie.Then2 Inv-loop μ-loop) →
+    let p = piece (c .before) in
+    let a = turn (piece-at (c .before)) in
+    Wrote (body (kind a) (text a) .value) (a .loop .at) (lent a) (putMid (a .loop .at) (length (a .loop .out) - a .loop .at) (a .loop .out) (p .put-piece .last .0))
+ended c =
+    let p = piece (c .before) in
+    let t = piece-at (c .before) in
+    let a = turn t in
+    let e = p .put-piece .ensures in
+    let z = c .if2 .taken in
+    strides.written-none (further a (value t) (stride t .1) _ _ (e .1)) (e .1 .count)
+    (strides.stride-none _ (a .loop .inv .1) (slash t) _ (e .0) z)
+    (bodies.whole _ 1 (step-in _) (a .loop .inv .1) (strides.stride-stops _ (a .loop .inv .1) (slash t) _ (e .0) z))
 
-value-room : (t : tie.Then1 Inv-loop μ-loop) (u : Unescaped) → u ≡ value t
-    → Valid u × (length (bytesOf u) ≤ length (take (length (turn t .loop .out) - turn t .loop .at) (drop (turn t .loop .at) (turn t .loop .out))))
-value-room t u e = rw e (room t .3, laws.room _ (turn t .loop .inv .2) (value-fits t))
-
--- and is written behind what is passed
-module _ (t : tie.Then1 Inv-loop μ-loop) (u : Unescaped) (is : u ≡ value t) (n : ℕ) (ys : List ℕ)
-    (w : Wrote (bytesOf u) n (take (length (turn t .loop .out) - turn t .loop .at) (drop (turn t .loop .at) (turn t .loop .out))) ys) where
-  further : Wrote (turn t .loop .inv .0 ++ bytesOf (value t)) (turn t .loop .at + n) (lent (turn t)) (putMid (turn t .loop .at) (length (turn t .loop .out) - turn t .loop .at) (turn t .loop .out) ys)
-  further = laws.behind (turn t .loop .inv .2) (rw is at w) (value-fits t)
-
-  counts : turn t .loop .at + n ≤ length (lent (turn t))
-  counts = omega (arith, further .count, length-append (turn t .loop .inv .0) (bytesOf (value t)), value-fits t)
-
--- `\x`
-abbrev x-piece : tie.After-slice-known2 Inv-loop μ-loop → tie.Then1 Inv-loop μ-loop
-x-piece c = c .before .before .before .before .before .before .before
-
-four : (c : tie.After-slice-known2 Inv-loop μ-loop) → size (x-piece c) ≡ 4
-four c =
-    let t = x-piece c in
-    let x = c .before .before .before .before .before in
-    code-x _ (text (turn t)) _ _ (t .before .code-at .ensures) (t .if1 .taken) (sym (x .before .is-x .ensures) ∙ x .if2 .taken) .0
-
--- another
-abbrev other : tie.After-slice-known3 Inv-loop μ-loop → tie.Then1 Inv-loop μ-loop
-other c = c .before .before .before .before .before .before .before
+onward : (c : tie.Else2 Inv-loop μ-loop) →
+    let a = turn (piece-at (c .before)) in
+    let j = piece (c .before) .put-piece .result .next in
+    (a .loop .i < j) × bodies.Passed (stepOf (kind a)) (text a) j (so-far a ++ value (piece-at (c .before)))
+onward c =
+    let t = piece-at (c .before) in
+    strides.stride-more _ (turn t .loop .inv .1) (slash t) _ (piece (c .before) .put-piece .ensures .0) (c .if2 .left)
 
 -- ---- a run
 
-abbrev run-from : tie.After-plain-end Inv-loop μ-loop → tie.At-loop Inv-loop μ-loop
-run-from b = b .before .before .before
+abbrev run-from : tie.Else1 Inv-loop μ-loop → tie.At-loop Inv-loop μ-loop
+run-from t = t .before .before
 
-abbrev passed : tie.After-plain-end Inv-loop μ-loop → List ℕ
-passed b = take (b .plain-end .result - run-from b .loop .i) (drop (run-from b .loop .i) (text (run-from b)))
+abbrev size : tie.At-loop Inv-loop μ-loop → ℕ
+size a = run (plainByte (kind a)) (drop (a .loop .i) (text a))
 
-ran : (b : tie.After-plain-end Inv-loop μ-loop)
-    → bodies.Passed (stepOf (kind (run-from b))) (text (run-from b)) (b .plain-end .result) (run-from b .loop .inv .0 ++ passed b)
-ran b = runs.passed-to (stepOf (kind (run-from b))) (plainByte (kind (run-from b))) (runs.plain-step _) _ (run-from b .loop .inv .1) (b .plain-end .ensures)
+abbrev passed : tie.At-loop Inv-loop μ-loop → List ℕ
+passed a = take (size a) (drop (a .loop .i) (text a))
 
-counted : (b : tie.After-plain-end Inv-loop μ-loop) → (run-from b .loop .i ≤ b .plain-end .result)
-    × (b .plain-end .result ≤ length (text (run-from b)))
-    × (length (run-from b .loop .inv .0 ++ passed b) ≡ length (run-from b .loop .inv .0) + (b .plain-end .result - run-from b .loop .i))
-counted b = runs.counts (plainByte (kind (run-from b))) _ _ (run-from b .loop .inv .0) _ (run-from b .loop .inv .1 .within) (b .plain-end .ensures)
+ran : (a : tie.At-loop Inv-loop μ-loop) → bodies.Passed (stepOf (kind a)) (text a) (a .loop .i + size a) (so-far a ++ passed a)
+ran a = runs.passed-run (stepOf (kind a)) (plainByte (kind a)) (runs.plain-step _) (size a) (a .loop .inv .1) refl
 
-fits : (b : tie.After-plain-end Inv-loop μ-loop) → length (run-from b .loop .inv .0) + length (passed b) ≤ length (lent (run-from b))
-fits b = omega (arith, bodies.part _ 1 (step-in _) (ran b), length-append (run-from b .loop .inv .0) (passed b), entry (run-from b) .pre .1)
+passed-length : (a : tie.At-loop Inv-loop μ-loop) → length (passed a) ≡ size a
+passed-length a =
+    length-take (size a) (drop (a .loop .i) (text a)) ∙ omega (arith, run-le (plainByte (kind a)) (drop (a .loop .i) (text a)))
+
+abbrev wrote : tie.After-slice-known3 Inv-loop μ-loop → tie.After-put-run Inv-loop μ-loop
+wrote c = c .before .before
+
+abbrev wrote-at : tie.After-slice-known3 Inv-loop μ-loop → tie.At-loop Inv-loop μ-loop
+wrote-at c = run-from (wrote c .before .before)
+
+counted : (c : tie.After-slice-known3 Inv-loop μ-loop) → wrote c .put-run .result ≡ size (wrote-at c)
+counted c = wrote c .put-run .ensures .count ∙ passed-length (wrote-at c)
+
+ended-2 : (c : tie.Then3 Inv-loop μ-loop) →
+    let a = wrote-at (c .before) in
+    Wrote (body (kind a) (text a) .value) (a .loop .at) (lent a) (putMid (a .loop .at) (length (a .loop .out) - a .loop .at) (a .loop .out) (wrote (c .before) .put-run .last .0))
+ended-2 c =
+    let b = c .before in
+    let a = wrote-at b in
+    let o = wrote b .before .before in
+    let w = wrote b .put-run .ensures in
+    let z : size a ≡ 0 = omega (arith, counted b, c .if3 .taken) in
+    strides.written-none (further a (passed a) (ran a) _ _ w) (w .count)
+    (ap (λ (n : ℕ). take n (drop (a .loop .i) (text a))) z ∙ take-none (drop (a .loop .i) (text a)))
+    (bodies.whole _ 1 (step-in _) (a .loop .inv .1)
+    (strides.other-stops _ (text a) _ (λ e. o .if1 .left (o .before .byte-at .ensures ∙ e)) (omega arith)))
 
 last-len-requires : tie.Need-last-len-requires Inv-loop μ-loop
 last-len-requires c κs = search needs
@@ -132,134 +155,85 @@ sub-end c = omega (arith, c .last-len .ensures, last-le (c .before .before .befo
 loop-holds : tie.Need-loop-holds Inv-loop μ-loop
 loop-holds c = ([], bodies.start _ _, laws.nothing _)
 
-code-at-requires : tie.Need-code-at-requires Inv-loop μ-loop
-code-at-requires c κs = (c .loop .inv .1 .within, (entry c .pre .0, rw (c .before .last-len .ensures)))
+byte-at-requires : tie.Need-byte-at-requires Inv-loop μ-loop
+byte-at-requires c κs = search needs
 
-is-x-requires : tie.Need-is-x-requires Inv-loop μ-loop
-is-x-requires c κs = turn c .loop .inv .1 .within
+sub-put-piece : tie.Need-sub-put-piece Inv-loop μ-loop
+sub-put-piece c = behind (turn c)
 
-sub-put-value : tie.Need-sub-put-value Inv-loop μ-loop
-sub-put-value c = behind (turn (c .before .before))
+part-put-piece-start : tie.Need-part-put-piece-start Inv-loop μ-loop
+part-put-piece-start c = behind (turn c)
 
-part-put-value-start : tie.Need-part-put-value-start Inv-loop μ-loop
-part-put-value-start c = behind (turn (c .before .before))
+part-put-piece-end : tie.Need-part-put-piece-end Inv-loop μ-loop
+part-put-piece-end c = search needs
 
-part-put-value-end : tie.Need-part-put-value-end Inv-loop μ-loop
-part-put-value-end c = search needs
+put-piece-requires : tie.Need-put-piece-requires Inv-loop μ-loop
+put-piece-requires c κs =
+    let t = c .before in
+    let a = turn t in
+    (slash t, (entry a .pre .0, rw (a .before .last-len .ensures)), laws.room _ (a .loop .inv .2) (fits a (value t) (stride t .1)))
 
-code-value-requires : tie.Need-code-value-requires Inv-loop μ-loop
-code-value-requires c κs = search needs
+same-length : tie.Need-same-length Inv-loop μ-loop
+same-length c = laws.wrote-length (ended c) (entry (turn (piece-at (c .before))) .pre .1)
 
-put-value-requires : tie.Need-put-value-requires Inv-loop μ-loop
-put-value-requires c κs = value-room (c .before .before .before .before) _ (c .code-value .ensures)
+returns : tie.Need-returns Inv-loop μ-loop
+returns c = ended c
 
 add-at : tie.Need-add-at Inv-loop μ-loop
 add-at c =
-    let w = c .before .before in
-    omega (arith, counts (x-piece c) _ (w .before .code-value .ensures) _ _ (w .put-value .ensures), entry (turn (x-piece c)) .good)
-
-add-i : tie.Need-add-i Inv-loop μ-loop
-add-i c = let t = x-piece c in omega (arith, room t .1, four c, entry (turn t) .good)
+    let b = c .before .before in
+    let t = piece-at b in
+    omega (arith, counts (turn t) (value t) (stride t .1) _ _ (piece b .put-piece .ensures .1), entry (turn t) .good)
 
 loop-less : tie.Need-loop-less Inv-loop μ-loop
-loop-less c = omega (arith, room (x-piece c) .1, four c)
+loop-less c = let m = onward (c .before) in omega (arith, m .0, m .1 .within)
 
 loop-again : tie.Need-loop-again Inv-loop μ-loop
 loop-again c =
-    let t = x-piece c in
-    let w = c .before .before in (
-      turn t .loop .inv .0 ++ bytesOf (value t),
-      rw (four c) at (onward t),
-      further t _ (w .before .code-value .ensures) _ _ (w .put-value .ensures),
-    )
+    let b = c .before .before in
+    let t = piece-at b in
+    (so-far (turn t) ++ value t, onward (c .before) .1, further (turn t) (value t) (stride t .1) _ _ (piece b .put-piece .ensures .1))
 
-sub-put-value-2 : tie.Need-sub-put-value-2 Inv-loop μ-loop
-sub-put-value-2 c = behind (turn (c .before .before))
+sub-put-run : tie.Need-sub-put-run Inv-loop μ-loop
+sub-put-run c = behind (run-from c)
 
-part-put-value-start-2 : tie.Need-part-put-value-start-2 Inv-loop μ-loop
-part-put-value-start-2 c = behind (turn (c .before .before))
+part-put-run-start : tie.Need-part-put-run-start Inv-loop μ-loop
+part-put-run-start c = behind (run-from c)
 
-part-put-value-end-2 : tie.Need-part-put-value-end-2 Inv-loop μ-loop
-part-put-value-end-2 c = search needs
+part-put-run-end : tie.Need-part-put-run-end Inv-loop μ-loop
+part-put-run-end c = search needs
 
-code-value-requires-2 : tie.Need-code-value-requires-2 Inv-loop μ-loop
-code-value-requires-2 c κs = search needs
+put-run-requires : tie.Need-put-run-requires Inv-loop μ-loop
+put-run-requires c κs =
+    let a = run-from (c .before) in
+    (a .loop .inv .1 .within, laws.room _ (a .loop .inv .2) (omega (arith, fits a (passed a) (ran a), passed-length a)))
 
-put-value-requires-2 : tie.Need-put-value-requires-2 Inv-loop μ-loop
-put-value-requires-2 c κs = value-room (c .before .before .before .before) _ (c .code-value2 .ensures)
+same-length-2 : tie.Need-same-length-2 Inv-loop μ-loop
+same-length-2 c = laws.wrote-length (ended-2 c) (entry (wrote-at (c .before)) .pre .1)
+
+returns-2 : tie.Need-returns-2 Inv-loop μ-loop
+returns-2 c = ended-2 c
 
 add-at-2 : tie.Need-add-at-2 Inv-loop μ-loop
 add-at-2 c =
-    let w = c .before .before in
-    omega (arith, counts (other c) _ (w .before .code-value2 .ensures) _ _ (w .put-value2 .ensures), entry (turn (other c)) .good)
+    let b = c .before in
+    let a = wrote-at b in
+    omega (arith, counts a (passed a) (ran a) _ _ (wrote b .put-run .ensures), entry a .good)
 
-code-len-requires : tie.Need-code-len-requires Inv-loop μ-loop
-code-len-requires c κs = search needs
-
-add-i-2 : tie.Need-add-i-2 Inv-loop μ-loop
-add-i-2 c = let t = other (c .before) in omega (arith, room t .1, c .code-len .ensures, entry (turn t) .good)
+add-i : tie.Need-add-i Inv-loop μ-loop
+add-i c = let a = wrote-at (c .before) in omega (arith, ran a .within, counted (c .before), entry a .good)
 
 loop-less-2 : tie.Need-loop-less-2 Inv-loop μ-loop
-loop-less-2 c = let r = room (other (c .before)) in omega (arith, r .0, r .1, c .code-len .ensures)
+loop-less-2 c = let a = wrote-at (c .before) in omega (arith, ran a .within, counted (c .before), c .if3 .left)
 
 loop-again-2 : tie.Need-loop-again-2 Inv-loop μ-loop
 loop-again-2 c =
-    let t = other (c .before) in
-    let w = c .before .before .before in (
-      turn t .loop .inv .0 ++ bytesOf (value t),
-      rw (c .code-len .ensures) (onward t),
-      further t _ (w .before .code-value2 .ensures) _ _ (w .put-value2 .ensures),
-    )
-
-plain-end-requires : tie.Need-plain-end-requires Inv-loop μ-loop
-plain-end-requires c κs = c .before .before .loop .inv .1 .within
-
-same-length : tie.Need-same-length Inv-loop μ-loop
-same-length c = let a = run-from (c .before) in laws.wrote-length (a .loop .inv .2) (passed-fits a)
-
-returns : tie.Need-returns Inv-loop μ-loop
-returns c =
     let b = c .before in
-    let i = run-from b .loop .inv in
-    let stops = code-stops _ _ (sym (b .before .before .code-at .ensures) ∙ b .before .if1 .left) (runs.behind-run _ _ _ _ (sym (c .if3 .taken) ∙ b .plain-end .ensures)) in
-    rw (sym (bodies.whole _ 1 (step-in _) (i .1) stops)) (i .2)
-
-sub-put-bytes : tie.Need-sub-put-bytes Inv-loop μ-loop
-sub-put-bytes c = behind (run-from (c .before))
-
-part-put-bytes-start : tie.Need-part-put-bytes-start Inv-loop μ-loop
-part-put-bytes-start c = behind (run-from (c .before))
-
-part-put-bytes-end : tie.Need-part-put-bytes-end Inv-loop μ-loop
-part-put-bytes-end c = search needs
-
-sub-put-bytes-2 : tie.Need-sub-put-bytes-2 Inv-loop μ-loop
-sub-put-bytes-2 c = counted (c .before .before) .0
-
-part-put-bytes-start-2 : tie.Need-part-put-bytes-start-2 Inv-loop μ-loop
-part-put-bytes-start-2 c = counted (c .before .before) .0
-
-part-put-bytes-end-2 : tie.Need-part-put-bytes-end-2 Inv-loop μ-loop
-part-put-bytes-end-2 c = counted (c .before .before) .1
-
-put-bytes-requires : tie.Need-put-bytes-requires Inv-loop μ-loop
-put-bytes-requires c κs = let b = c .before .before .before in laws.room _ (run-from b .loop .inv .2) (fits b)
-
-add-at-3 : tie.Need-add-at-3 Inv-loop μ-loop
-add-at-3 c =
-    let b = c .before .before .before .before .before .before in
-    omega (arith, fits b, run-from b .loop .inv .2 .count, c .before .before .put-bytes .ensures .count, entry (run-from b) .good)
-
-loop-less-3 : tie.Need-loop-less-3 Inv-loop μ-loop
-loop-less-3 c =
-    let e = c .before .before .before .before .before in
-    let r = counted (e .before) in
-    omega (arith, r .0, r .1, e .if3 .left)
-
-loop-again-3 : tie.Need-loop-again-3 Inv-loop μ-loop
-loop-again-3 c =
-    let b = c .before .before .before .before .before .before in
-    (run-from b .loop .inv .0 ++ passed b, ran b, laws.behind (run-from b .loop .inv .2) (c .before .before .put-bytes .ensures) (fits b))
+    let a = wrote-at b in (
+      so-far a ++ passed a,
+      subst (λ (n : ℕ). bodies.Passed (stepOf (kind a)) (text a) (a .loop .i + n) (so-far a ++ passed a)) (sym (counted b)) (ran a),
+      further a (passed a) (ran a) _ _ (wrote b .put-run .ensures),
+    )
 
 pub write-value-spec : {M : Type 1} → statement M
 write-value-spec =
@@ -270,37 +244,23 @@ write-value-spec =
     last-len-requires
     sub-end
     loop-holds
-    code-at-requires
-    is-x-requires
-    sub-put-value
-    part-put-value-start
-    part-put-value-end
-    code-value-requires
-    put-value-requires
-    add-at
-    add-i
-    loop-less
-    loop-again
-    sub-put-value-2
-    part-put-value-start-2
-    part-put-value-end-2
-    code-value-requires-2
-    put-value-requires-2
-    add-at-2
-    code-len-requires
-    add-i-2
-    loop-less-2
-    loop-again-2
-    plain-end-requires
+    byte-at-requires
+    sub-put-piece
+    part-put-piece-start
+    part-put-piece-end
+    put-piece-requires
     same-length
     returns
-    sub-put-bytes
-    part-put-bytes-start
-    part-put-bytes-end
-    sub-put-bytes-2
-    part-put-bytes-start-2
-    part-put-bytes-end-2
-    put-bytes-requires
-    add-at-3
-    loop-less-3
-    loop-again-3)
+    add-at
+    loop-less
+    loop-again
+    sub-put-run
+    part-put-run-start
+    part-put-run-end
+    put-run-requires
+    same-length-2
+    returns-2
+    add-at-2
+    add-i
+    loop-less-2
+    loop-again-2)

@@ -2,9 +2,11 @@
 -- Assumes nothing.
 use borrow.Author.Needs.{needs}
 use Prim.Native.Nat.{_≤_, _+_, _-_}
+use native.Mathlib.Omega.{arith}
 use mathlib.Core.Path.{_≡_, refl, sym, _∙_}
-use lib.ListN.{length, drop}
+use lib.ListN.{length, drop, length-drop}
 use Rattle.scan.specs.Run.{run}
+use Rattle.scan.proofs.Runs.{run-le}
 use Rattle.quoting.specs.Styled.{itself}
 use Rattle.body.proofs.Blocks.{block-stop, block-past}
 use Rattle.quoting.proofs.block_end.Statement.{statement}
@@ -59,7 +61,11 @@ byte-run-requires : tie.Need-byte-run-requires Inv-loop μ-loop
 byte-run-requires c κs = search needs
 
 returns-2 : tie.Need-returns-2 Inv-loop μ-loop
-returns-2 c = c .byte-run .ensures ∙ c .before .before .loop .inv .1
+returns-2 c =
+    let a = c .before .before in
+    let i = a .loop .i in
+    let e = a .before .before .args in
+    omega (arith, c .byte-run .ensures, a .loop .inv .1, run-le (itself (e .style .wide) (e .style .quote)) (drop i (e .s .now)), length-drop i (e .s .now))
 
 pub block-end-spec : {M : Type 1} → statement M
 block-end-spec =

@@ -5,16 +5,19 @@ use mathlib.Core.Path.{_≡_, refl, sym, ap, _∙_}
 use mathlib.Core.List.{List, [], _++_}
 use Prim.Native.Nat.{ℕ, _≤_, _<_, _-_, _+_, _*_}
 use native.Mathlib.Omega.{arith}
-use lib.ListN.{length, take, drop, length-append}
+use lib.ListN.{length, getD, take, drop, length-append}
 use Rattle.utf8.proofs.Cuts.{last-le}
 use Rattle.escape.specs.Code.{codedLen, codedValue}
 use Rattle.escape.specs.Escape.{bytesOf, Valid}
 use Rattle.escape.specs.declared.Allowed.{Allowed}
 use Rattle.escape.specs.declared.Unescaped.{Unescaped}
+use Rattle.body.specs.Body.{body}
+use Rattle.body.specs.Code.{Stopped}
 use Rattle.body.specs.Step.{piece, stepOf, plainByte}
 use Rattle.body.proofs.Bodies as bodies
-use Rattle.body.proofs.Codes.{code-step, code-x, code-stops}
+use Rattle.body.proofs.Codes.{code-step}
 use Rattle.body.proofs.Runs as runs
+use Rattle.body.proofs.Strides as strides
 use Rattle.body.proofs.Within.{step-in}
 use Rattle.quoting.specs.Styled.{styledForms}
 use Rattle.quoting.proofs.Styles as styles
@@ -59,40 +62,42 @@ short l =
       entry l .pre,
     )
 
--- the piece that a code tells
-abbrev size : tie.Then1 Inv-loop μ-loop → ℕ
+-- at the end of the body it is the whole form
+at-end : (l : tie.At-loop Inv-loop μ-loop) → Stopped (stepOf (kind l) (drop (l .loop .i) (text l)))
+    → (l .loop .n ≡ length (forms l (body (kind l) (text l) .value))) × (l .loop .n ≤ 4 * length (text l))
+at-end l stops = (l .loop .inv .2 ∙ ap (λ (v : List ℕ). length (forms l v)) (bodies.whole _ 1 (step-in _) (l .loop .inv .1) stops), short l .0)
+
+-- a backslash
+slash : (t : tie.Then1 Inv-loop μ-loop) → let l = t .before .before in getD (text l) (l .loop .i) 0 ≡ 92
+slash t = sym (t .before .byte-at .ensures) ∙ t .if1 .taken
+
+-- its piece
+abbrev turn : tie.Else2 Inv-loop μ-loop → tie.At-loop Inv-loop μ-loop
+turn c = c .before .before .before .before
+
+abbrev size : tie.Else2 Inv-loop μ-loop → ℕ
 size c = codedLen (c .before .code-at .result)
 
-abbrev value : tie.Then1 Inv-loop μ-loop → Unescaped
+abbrev value : tie.Else2 Inv-loop μ-loop → Unescaped
 value c = codedValue (c .before .code-at .result)
 
-stepped : (c : tie.Then1 Inv-loop μ-loop) →
-    let l = c .before .before in
-    stepOf (kind l) (drop (l .loop .i) (text l)) ≡ piece (size c) (value c)
-stepped c = code-step _ _ _ (c .before .code-at .ensures) (c .if1 .taken)
+stepped : (c : tie.Else2 Inv-loop μ-loop) → stepOf (kind (turn c)) (drop (turn c .loop .i) (text (turn c))) ≡ piece (size c) (value c)
+stepped c = code-step _ _ _ (c .before .code-at .ensures) (c .if2 .left)
 
-room : (c : tie.Then1 Inv-loop μ-loop) →
-    let l = c .before .before in
-    (0 < size c) × (l .loop .i + size c ≤ length (text l)) × (length (bytesOf (value c)) ≤ size c) × Valid (value c)
-room c = bodies.bounds _ 1 (step-in _) (c .before .before .loop .inv .1) _ _ (stepped c)
+room : (c : tie.Else2 Inv-loop μ-loop)
+    → (0 < size c) × (turn c .loop .i + size c ≤ length (text (turn c))) × (length (bytesOf (value c)) ≤ size c) × Valid (value c)
+room c = bodies.bounds _ 1 (step-in _) (turn c .loop .inv .1) _ _ (stepped c)
 
-onward : (c : tie.Then1 Inv-loop μ-loop) →
-    let l = c .before .before in
-    bodies.Passed (stepOf (kind l)) (text l) (l .loop .i + size c) (so-far l ++ bytesOf (value c))
-onward c = bodies.more _ 1 (step-in _) (c .before .before .loop .inv .1) _ _ (stepped c)
+onward : (c : tie.Else2 Inv-loop μ-loop)
+    → bodies.Passed (stepOf (kind (turn c))) (text (turn c)) (turn c .loop .i + size c) (so-far (turn c) ++ bytesOf (value c))
+onward c = bodies.more _ 1 (step-in _) (turn c .loop .inv .1) _ _ (stepped c)
 
 measured : (c : tie.After-value-len Inv-loop μ-loop) →
     let d = c .before .before in
-    c .value-len .result ≡ length (forms (d .before .before) (bytesOf (value d)))
+    c .value-len .result ≡ length (forms (turn d) (bytesOf (value d)))
 measured c = rw (c .before .code-value .ensures) at (c .value-len .ensures .0)
 
--- `\x`
-four : (c : tie.Then2 Inv-loop μ-loop) → size (c .before .before .before .before) ≡ 4
-four c =
-    let d = c .before .before .before .before in
-    code-x _ (text (d .before .before)) _ _ (d .before .code-at .ensures) (d .if1 .taken) (sym (c .before .is-x .ensures) ∙ c .if2 .taken) .0
-
--- the run where there is none
+-- a run
 abbrev passed : tie.After-plain-end Inv-loop μ-loop → List ℕ
 passed b = let l = b .before .before .before in take (b .plain-end .result - l .loop .i) (drop (l .loop .i) (text l))
 
@@ -120,8 +125,19 @@ sub-end c = omega (arith, c .last-len .ensures, last-le (c .before .before .args
 loop-holds : tie.Need-loop-holds Inv-loop μ-loop
 loop-holds c = ([], bodies.start _ _, refl)
 
+byte-at-requires : tie.Need-byte-at-requires Inv-loop μ-loop
+byte-at-requires c κs = search needs
+
 code-at-requires : tie.Need-code-at-requires Inv-loop μ-loop
-code-at-requires c κs = (c .loop .inv .1 .within, (omega (arith, entry c .pre), rw (c .before .last-len .ensures)))
+code-at-requires c κs = let l = c .before .before in (l .loop .inv .1 .within, (omega (arith, entry l .pre), rw (l .before .last-len .ensures)))
+
+returns : tie.Need-returns Inv-loop μ-loop
+returns c =
+    let b = c .before in
+    let t = b .before in
+    let l = t .before .before in
+    let arm = strides.none-arm _ (text l) _ (slash t) (sym (b .code-at .ensures) ∙ c .if2 .taken) in
+    at-end l (strides.stride-stops _ (l .loop .inv .1) (slash t) 0 (arm .next) refl)
 
 code-value-requires : tie.Need-code-value-requires Inv-loop μ-loop
 code-value-requires c κs = search needs
@@ -130,57 +146,35 @@ value-len-requires : tie.Need-value-len-requires Inv-loop μ-loop
 value-len-requires c κs = search needs
 
 add-n : tie.Need-add-n Inv-loop μ-loop
-add-n c = omega (arith, short (c .before .before .before .before), c .value-len .ensures .1)
-
-is-x-requires : tie.Need-is-x-requires Inv-loop μ-loop
-is-x-requires c κs = c .before .before .before .before .loop .inv .1 .within
-
-add-i : tie.Need-add-i Inv-loop μ-loop
-add-i c = let d = c .before .before .before .before in omega (arith, room d .1, four c, short (d .before .before) .1)
-
-loop-less : tie.Need-loop-less Inv-loop μ-loop
-loop-less c = omega (arith, room (c .before .before .before .before) .1, four c)
-
-loop-again : tie.Need-loop-again Inv-loop μ-loop
-loop-again c =
-    let v = c .before .before in
-    let d = v .before .before in
-    let l = d .before .before in (
-      so-far l ++ bytesOf (value d),
-      rw (four c) at (onward d),
-      longer l _ (bytesOf (value d)) (measured v),
-    )
+add-n c = omega (arith, short (turn (c .before .before)), c .value-len .ensures .1)
 
 code-len-requires : tie.Need-code-len-requires Inv-loop μ-loop
 code-len-requires c κs = search needs
 
-add-i-2 : tie.Need-add-i-2 Inv-loop μ-loop
-add-i-2 c =
-    let d = c .before .before .before .before .before in
-    omega (arith, room d .1, c .code-len .ensures, short (d .before .before) .1)
+add-i : tie.Need-add-i Inv-loop μ-loop
+add-i c =
+    let d = c .before .before .before in
+    omega (arith, room d .1, c .code-len .ensures, short (turn d) .1)
 
-loop-less-2 : tie.Need-loop-less-2 Inv-loop μ-loop
-loop-less-2 c = let r = room (c .before .before .before .before .before) in omega (arith, r .0, r .1, c .code-len .ensures)
+loop-less : tie.Need-loop-less Inv-loop μ-loop
+loop-less c = let r = room (c .before .before .before) in omega (arith, r .0, r .1, c .code-len .ensures)
 
-loop-again-2 : tie.Need-loop-again-2 Inv-loop μ-loop
-loop-again-2 c =
-    let v = c .before .before .before in
+loop-again : tie.Need-loop-again Inv-loop μ-loop
+loop-again c =
+    let v = c .before in
     let d = v .before .before in
-    let l = d .before .before in (
-      so-far l ++ bytesOf (value d),
-      rw (c .code-len .ensures) (onward d),
-      longer l _ (bytesOf (value d)) (measured v),
-    )
+    let l = turn d in
+    (so-far l ++ bytesOf (value d), rw (c .code-len .ensures) (onward d), longer l _ (bytesOf (value d)) (measured v))
 
 plain-end-requires : tie.Need-plain-end-requires Inv-loop μ-loop
 plain-end-requires c κs = c .before .before .loop .inv .1 .within
 
-returns : tie.Need-returns Inv-loop μ-loop
-returns c =
+returns-2 : tie.Need-returns-2 Inv-loop μ-loop
+returns-2 c =
     let b = c .before in
     let l = b .before .before .before in
-    let stops = code-stops _ _ (sym (b .before .before .code-at .ensures) ∙ b .before .if1 .left) (runs.behind-run _ _ _ _ (sym (c .if3 .taken) ∙ b .plain-end .ensures)) in
-    (l .loop .inv .2 ∙ ap (λ (v : List ℕ). length (forms l v)) (bodies.whole _ 1 (step-in _) (l .loop .inv .1) stops), short l .0)
+    let o = b .before in
+    at-end l (strides.other-stops _ (text l) _ (λ e. o .if1 .left (o .before .byte-at .ensures ∙ e)) (sym (c .if3 .taken) ∙ b .plain-end .ensures))
 
 sub-forms-len : tie.Need-sub-forms-len Inv-loop μ-loop
 sub-forms-len c = counted (c .before) .0
@@ -203,11 +197,11 @@ add-n-2 c =
     let l = b .before .before .before in
     omega (arith, short l, counted b, length-append (so-far l) (passed b), c .forms-len .ensures .1)
 
-loop-less-3 : tie.Need-loop-less-3 Inv-loop μ-loop
-loop-less-3 c = let b = c .before .before .before in omega (arith, counted b, c .before .before .if3 .left)
+loop-less-2 : tie.Need-loop-less-2 Inv-loop μ-loop
+loop-less-2 c = let b = c .before .before .before in omega (arith, counted b, c .before .before .if3 .left)
 
-loop-again-3 : tie.Need-loop-again-3 Inv-loop μ-loop
-loop-again-3 c =
+loop-again-2 : tie.Need-loop-again-2 Inv-loop μ-loop
+loop-again-2 c =
     let b = c .before .before .before in
     let l = b .before .before .before in
     (so-far l ++ passed b, ran b, longer l _ (passed b) (c .forms-len .ensures .0))
@@ -221,24 +215,22 @@ body-len-spec =
     last-len-requires
     sub-end
     loop-holds
+    byte-at-requires
     code-at-requires
+    returns
     code-value-requires
     value-len-requires
     add-n
-    is-x-requires
+    code-len-requires
     add-i
     loop-less
     loop-again
-    code-len-requires
-    add-i-2
-    loop-less-2
-    loop-again-2
     plain-end-requires
-    returns
+    returns-2
     sub-forms-len
     part-forms-len-start
     part-forms-len-end
     forms-len-requires
     add-n-2
-    loop-less-3
-    loop-again-3)
+    loop-less-2
+    loop-again-2)

@@ -5,19 +5,18 @@ use mathlib.Core.Path.{_≡_, sym, ap, _∙_}
 use mathlib.Core.List.{List, [], _++_}
 use Prim.Native.Nat.{ℕ, _≤_, _<_, _-_, _+_}
 use native.Mathlib.Omega.{arith}
-use lib.ListN.{length, take, drop, length-append}
+use lib.ListN.{length, getD, take, drop, length-append}
 use borrow.Rule.Slice.PartMut.{putMid}
 use Rattle.buffer.specs.Buffer.{Wrote}
 use Rattle.buffer.proofs.Laws as laws
 use Rattle.utf8.proofs.Cuts.{last-le}
-use Rattle.escape.specs.Code.{codedLen}
-use Rattle.escape.specs.Escape.{bytesOf, Valid}
 use Rattle.escape.specs.declared.Allowed.{Allowed}
-use Rattle.body.specs.Body.{Body, bodyBy}
-use Rattle.body.specs.Step.{piece, stepOf, plainByte}
+use Rattle.body.specs.Body.{Body, bodyBy, body}
+use Rattle.body.specs.Step.{backslashOf, stepOf, plainByte}
+use Rattle.body.specs.Stride.{valueIn}
 use Rattle.body.proofs.Bodies as bodies
-use Rattle.body.proofs.Codes.{code-step, code-x, code-stops}
 use Rattle.body.proofs.Runs as runs
+use Rattle.body.proofs.Strides as strides
 use Rattle.body.proofs.Within.{step-in}
 use Rattle.quoting.specs.Styled.{styledForms}
 use Rattle.quoting.proofs.Styles as styles
@@ -83,43 +82,51 @@ further l v n ys p w =
     let y = entry l .args .style in
     rw (styles.forms-append (y .wide) (y .quote) (so-far l) v) (laws.behind (l .loop .inv .2) w (fits l v p))
 
--- ---- a piece with a code
+-- ---- a backslash
 
-abbrev turn : tie.After-code-value Inv-loop μ-loop → tie.At-loop Inv-loop μ-loop
-turn c = c .before .before .before .before
+abbrev turn : tie.Then1 Inv-loop μ-loop → tie.At-loop Inv-loop μ-loop
+turn t = t .before .before
 
-abbrev size : tie.After-code-value Inv-loop μ-loop → ℕ
-size c = codedLen (c .before .before .before .code-at .result)
+slash : (t : tie.Then1 Inv-loop μ-loop) → getD (text (turn t)) (turn t .loop .i) 0 ≡ 92
+slash t = sym (t .before .byte-at .ensures) ∙ t .if1 .taken
 
-abbrev bytes : tie.After-code-value Inv-loop μ-loop → List ℕ
-bytes c = bytesOf (c .code-value .result)
+abbrev value : tie.Then1 Inv-loop μ-loop → List ℕ
+value t = valueIn (backslashOf (kind (turn t)) (drop (turn t .loop .i) (text (turn t))))
 
-stepped : (c : tie.After-code-value Inv-loop μ-loop)
-    → stepOf (kind (turn c)) (drop (turn c .loop .i) (text (turn c))) ≡ piece (size c) (c .code-value .result)
-stepped c =
-    let t = c .before .before in
-    code-step _ _ _ (t .before .code-at .ensures) (t .if1 .taken) ∙ ap (piece (size c)) (sym (c .code-value .ensures))
+stride : (t : tie.Then1 Inv-loop μ-loop) → (j : ℕ) × bodies.Passed (stepOf (kind (turn t))) (text (turn t)) j (so-far (turn t) ++ value t)
+stride t = strides.stride-passed _ (turn t .loop .inv .1) (slash t)
 
-room : (c : tie.After-code-value Inv-loop μ-loop)
-    → (0 < size c) × (turn c .loop .i + size c ≤ length (text (turn c))) × (length (bytes c) ≤ size c) × Valid (c .code-value .result)
-room c = bodies.bounds _ 1 (step-in _) (turn c .loop .inv .1) _ _ (stepped c)
+value-fits : (t : tie.Then1 Inv-loop μ-loop)
+    → length (forms (turn t) (so-far (turn t))) + length (forms (turn t) (value t)) ≤ length (lent (turn t))
+value-fits t = fits (turn t) (value t) (stride t .1)
 
-onward : (c : tie.After-code-value Inv-loop μ-loop)
-    → bodies.Passed (stepOf (kind (turn c))) (text (turn c)) (turn c .loop .i + size c) (so-far (turn c) ++ bytes c)
-onward c = bodies.more _ 1 (step-in _) (turn c .loop .inv .1) _ _ (stepped c)
+-- what its piece was written as
+abbrev piece : tie.After-struct-known Inv-loop μ-loop → tie.After-put-piece Inv-loop μ-loop
+piece c = c .before .before .before
 
-value-fits : (c : tie.After-code-value Inv-loop μ-loop)
-    → length (forms (turn c) (so-far (turn c))) + length (forms (turn c) (bytes c)) ≤ length (lent (turn c))
-value-fits c = fits (turn c) (bytes c) (onward c)
+abbrev piece-at : tie.After-struct-known Inv-loop μ-loop → tie.Then1 Inv-loop μ-loop
+piece-at c = piece c .before .before
 
--- `\x`: where it is written, and how long it is
-abbrev written : tie.Then2 Inv-loop μ-loop → tie.After-put-value Inv-loop μ-loop
-written c = c .before .before .before .before
+ended : (c : tie.Then2 Inv-loop μ-loop) →
+    let l = turn (piece-at (c .before)) in
+    Wrote (forms l (body (kind l) (text l) .value)) (l .loop .at) (lent l)
+    (putMid (l .loop .at) (length (l .loop .out) - l .loop .at) (l .loop .out) (piece (c .before) .put-piece .last .0))
+ended c =
+    let t = piece-at (c .before) in
+    let l = turn t in
+    let e = piece (c .before) .put-piece .ensures in
+    let z = c .if2 .taken in
+    strides.written-none (laws.behind {q = forms l (value t)} (l .loop .inv .2) (e .1) (value-fits t)) (e .1 .count)
+    (ap (forms l) (strides.stride-none _ (l .loop .inv .1) (slash t) _ (e .0) z))
+    (ap (forms l) (bodies.whole _ 1 (step-in _) (l .loop .inv .1) (strides.stride-stops _ (l .loop .inv .1) (slash t) _ (e .0) z)))
 
-four : (c : tie.Then2 Inv-loop μ-loop) → size (written c .before) ≡ 4
-four c =
-    let t = written c .before .before .before in
-    code-x _ (text (t .before .before)) _ _ (t .before .code-at .ensures) (t .if1 .taken) (sym (c .before .is-x .ensures) ∙ c .if2 .taken) .0
+onward : (c : tie.Else2 Inv-loop μ-loop) →
+    let l = turn (piece-at (c .before)) in
+    let j = piece (c .before) .put-piece .result .next in
+    (l .loop .i < j) × bodies.Passed (stepOf (kind l)) (text l) j (so-far l ++ value (piece-at (c .before)))
+onward c =
+    let t = piece-at (c .before) in
+    strides.stride-more _ (turn t .loop .inv .1) (slash t) _ (piece (c .before) .put-piece .ensures .0) (c .if2 .left)
 
 -- ---- a run
 
@@ -151,76 +158,58 @@ sub-end c = omega (arith, c .last-len .ensures, last-le (c .before .before .befo
 loop-holds : tie.Need-loop-holds Inv-loop μ-loop
 loop-holds c = ([], bodies.start _ _, laws.nothing _)
 
-code-at-requires : tie.Need-code-at-requires Inv-loop μ-loop
-code-at-requires c κs = (c .loop .inv .1 .within, (omega (arith, entry c .pre .0), rw (c .before .last-len .ensures)))
+byte-at-requires : tie.Need-byte-at-requires Inv-loop μ-loop
+byte-at-requires c κs = search needs
 
-sub-put-value : tie.Need-sub-put-value Inv-loop μ-loop
-sub-put-value c = behind (c .before .before)
+sub-put-piece : tie.Need-sub-put-piece Inv-loop μ-loop
+sub-put-piece c = behind (turn c)
 
-part-put-value-start : tie.Need-part-put-value-start Inv-loop μ-loop
-part-put-value-start c = behind (c .before .before)
+part-put-piece-start : tie.Need-part-put-piece-start Inv-loop μ-loop
+part-put-piece-start c = behind (turn c)
 
-part-put-value-end : tie.Need-part-put-value-end Inv-loop μ-loop
-part-put-value-end c = search needs
+part-put-piece-end : tie.Need-part-put-piece-end Inv-loop μ-loop
+part-put-piece-end c = search needs
 
-code-value-requires : tie.Need-code-value-requires Inv-loop μ-loop
-code-value-requires c κs = search needs
+put-piece-requires : tie.Need-put-piece-requires Inv-loop μ-loop
+put-piece-requires c κs =
+    let t = c .before in
+    let l = turn t in
+    (slash t, (omega (arith, entry l .pre .0), rw (l .before .last-len .ensures)), laws.room _ (l .loop .inv .2) (value-fits t))
 
-put-value-requires : tie.Need-put-value-requires Inv-loop μ-loop
-put-value-requires c κs = (room c .3, laws.room _ (turn c .loop .inv .2) (value-fits c))
+same-length : tie.Need-same-length Inv-loop μ-loop
+same-length c = laws.wrote-length (ended c) (entry (turn (piece-at (c .before))) .pre .1)
+
+returns : tie.Need-returns Inv-loop μ-loop
+returns c = ended c
 
 add-at : tie.Need-add-at Inv-loop μ-loop
 add-at c =
-    let v = c .before .before .before in
-    omega (arith, value-fits v, turn v .loop .inv .2 .count, c .before .before .put-value .ensures .count, entry (turn v) .good)
-
-is-x-requires : tie.Need-is-x-requires Inv-loop μ-loop
-is-x-requires c κs = turn (c .before .before .before) .loop .inv .1 .within
-
-add-i : tie.Need-add-i Inv-loop μ-loop
-add-i c = let v = written c .before in omega (arith, room v .1, four c, entry (turn v) .good)
+    let b = c .before .before in
+    let t = piece-at b in
+    omega (arith, value-fits t, turn t .loop .inv .2 .count, piece b .put-piece .ensures .1 .count, entry (turn t) .good)
 
 loop-less : tie.Need-loop-less Inv-loop μ-loop
-loop-less c = omega (arith, room (written c .before) .1, four c)
+loop-less c = let m = onward (c .before) in omega (arith, m .0, m .1 .within)
 
 loop-again : tie.Need-loop-again Inv-loop μ-loop
 loop-again c =
-    let v = written c .before in (
-      so-far (turn v) ++ bytes v,
-      rw (four c) at (onward v),
-      further (turn v) (bytes v) _ _ (onward v) (written c .put-value .ensures),
-    )
-
-code-len-requires : tie.Need-code-len-requires Inv-loop μ-loop
-code-len-requires c κs = search needs
-
-add-i-2 : tie.Need-add-i-2 Inv-loop μ-loop
-add-i-2 c = let v = c .before .before .before .before .before .before in omega (arith, room v .1, c .code-len .ensures, entry (turn v) .good)
-
-loop-less-2 : tie.Need-loop-less-2 Inv-loop μ-loop
-loop-less-2 c = let r = room (c .before .before .before .before .before .before) in omega (arith, r .0, r .1, c .code-len .ensures)
-
-loop-again-2 : tie.Need-loop-again-2 Inv-loop μ-loop
-loop-again-2 c =
-    let w = c .before .before .before .before .before in
-    let v = w .before in (
-      so-far (turn v) ++ bytes v,
-      rw (c .code-len .ensures) (onward v),
-      further (turn v) (bytes v) _ _ (onward v) (w .put-value .ensures),
-    )
+    let b = c .before .before in
+    let t = piece-at b in
+    (so-far (turn t) ++ value t, onward (c .before) .1, further (turn t) (value t) _ _ (stride t .1) (piece b .put-piece .ensures .1))
 
 plain-end-requires : tie.Need-plain-end-requires Inv-loop μ-loop
 plain-end-requires c κs = c .before .before .loop .inv .1 .within
 
-same-length : tie.Need-same-length Inv-loop μ-loop
-same-length c = let l = run-from (c .before) in laws.wrote-length (l .loop .inv .2) (part l (l .loop .inv .1))
+same-length-2 : tie.Need-same-length-2 Inv-loop μ-loop
+same-length-2 c = let l = run-from (c .before) in laws.wrote-length (l .loop .inv .2) (part l (l .loop .inv .1))
 
-returns : tie.Need-returns Inv-loop μ-loop
-returns c =
+returns-2 : tie.Need-returns-2 Inv-loop μ-loop
+returns-2 c =
     let b = c .before in
-    let i = run-from b .loop .inv in
-    let stops = code-stops _ _ (sym (b .before .before .code-at .ensures) ∙ b .before .if1 .left) (runs.behind-run _ _ _ _ (sym (c .if3 .taken) ∙ b .plain-end .ensures)) in
-    rw (sym (bodies.whole _ 1 (step-in _) (i .1) stops)) (i .2)
+    let l = run-from b in
+    let o = b .before in
+    let stops = strides.other-stops _ (text l) _ (λ e. o .if1 .left (o .before .byte-at .ensures ∙ e)) (sym (c .if3 .taken) ∙ b .plain-end .ensures) in
+    rw (sym (bodies.whole _ 1 (step-in _) (l .loop .inv .1) stops)) (l .loop .inv .2)
 
 sub-put-forms : tie.Need-sub-put-forms Inv-loop μ-loop
 sub-put-forms c = behind (run-from (c .before))
@@ -249,14 +238,14 @@ add-at-2 c =
     let b = w .before .before .before .before in
     omega (arith, run-fits b, run-from b .loop .inv .2 .count, w .put-forms .ensures .count, entry (run-from b) .good)
 
-loop-less-3 : tie.Need-loop-less-3 Inv-loop μ-loop
-loop-less-3 c =
+loop-less-2 : tie.Need-loop-less-2 Inv-loop μ-loop
+loop-less-2 c =
     let e = c .before .before .before .before .before in
     let r = counted (e .before) in
     omega (arith, r .0, r .1, e .if3 .left)
 
-loop-again-3 : tie.Need-loop-again-3 Inv-loop μ-loop
-loop-again-3 c =
+loop-again-2 : tie.Need-loop-again-2 Inv-loop μ-loop
+loop-again-2 c =
     let w = c .before .before in
     let b = w .before .before .before .before in
     (so-far (run-from b) ++ passed b, ran b, further (run-from b) (passed b) _ _ (ran b) (w .put-forms .ensures))
@@ -270,24 +259,19 @@ put-body-spec =
     last-len-requires
     sub-end
     loop-holds
-    code-at-requires
-    sub-put-value
-    part-put-value-start
-    part-put-value-end
-    code-value-requires
-    put-value-requires
-    add-at
-    is-x-requires
-    add-i
-    loop-less
-    loop-again
-    code-len-requires
-    add-i-2
-    loop-less-2
-    loop-again-2
-    plain-end-requires
+    byte-at-requires
+    sub-put-piece
+    part-put-piece-start
+    part-put-piece-end
+    put-piece-requires
     same-length
     returns
+    add-at
+    loop-less
+    loop-again
+    plain-end-requires
+    same-length-2
+    returns-2
     sub-put-forms
     part-put-forms-start
     part-put-forms-end
@@ -296,5 +280,5 @@ put-body-spec =
     part-put-forms-end-2
     put-forms-requires
     add-at-2
-    loop-less-3
-    loop-again-3)
+    loop-less-2
+    loop-again-2)

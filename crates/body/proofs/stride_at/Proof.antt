@@ -1,0 +1,178 @@
+-- `body::stride_at` meets its contract.
+-- Assumes nothing.
+use borrow.Author.Needs.{needs}
+use mathlib.Core.Path.{_≡_, sym, ap, _∙_}
+use mathlib.Core.List.{_∷_, []}
+use Prim.Native.Nat.{_+_, _<_}
+use native.Mathlib.Omega.{arith}
+use lib.ListN.{length}
+use Rattle.escape.specs.Escape.{bytesOf}
+use Rattle.escape.specs.Code.{codedLen, codedValue}
+use Rattle.body.proofs.Strides as strides
+use Rattle.body.proofs.stride_at.Statement.{statement}
+use Rattle.body.proofs.stride_at.Tie as tie
+
+-- the call, at each place
+abbrev at-letter : tie.After-letter-at → tie.Start
+at-letter b = b .before .before
+
+abbrev at-break : tie.After-break-end → tie.Start
+at-break b = at-letter (b .before .before)
+
+abbrev at-x : tie.After-x-at → tie.Start
+at-x b = at-break (b .before .before)
+
+abbrev at-u : tie.After-u-at → tie.Start
+at-u b = at-x (b .before .before)
+
+abbrev at-code : tie.After-code-at → tie.Start
+at-code b = at-u (b .before .before)
+
+inside : (e : tie.Start) → e .args .at < length (e .args .s .now)
+inside e = strides.at-in (e .args .k) (e .args .s .now) (e .args .at) (e .pre .0)
+
+-- the arms
+letter : (c : tie.Then1) →
+    let a = at-letter (c .before) .args in
+    strides.Arm (a .k) (a .s .now) (a .at) (a .at + 2) (c .before .letter-at .result ∷ [])
+letter c =
+    let e = at-letter (c .before) in
+    strides.letter-arm _ _ _ (e .pre .0) _ (e .pre .1 .1) _ (c .before .letter-at .ensures) (c .if1 .taken)
+
+break : (c : tie.Then2) →
+    let a = at-break (c .before) .args in
+    strides.Arm (a .k) (a .s .now) (a .at) (c .before .break-end .result) []
+break c = strides.break-arm _ _ _ (at-break (c .before) .pre .0) _ (c .before .break-end .ensures) (c .if2 .taken)
+
+by-x : (c : tie.Then3) →
+    let a = at-x (c .before) .args in
+    strides.Coded (a .k) (a .s .now) (a .at) (c .before .x-at .result) (a .at + 4)
+    × (length (bytesOf (codedValue (c .before .x-at .result))) ≡ 1)
+by-x c =
+    let e = at-x (c .before) in
+    strides.x-arm _ _ _ (e .pre .0) _ (e .pre .1 .1) _ (c .before .x-at .ensures) (c .if3 .taken)
+
+by-u : (c : tie.Then4) →
+    let a = at-u (c .before) .args in
+    strides.Coded (a .k) (a .s .now) (a .at) (c .before .u-at .result) (a .at + codedLen (c .before .u-at .result))
+by-u c =
+    let e = at-u (c .before) in
+    strides.u-arm _ _ _ (e .pre .0) _ (e .pre .1 .1) _ (c .before .u-at .ensures) (c .if4 .taken)
+
+none : (c : tie.Then6) →
+    let a = at-code (c .before) .args in
+    strides.Arm (a .k) (a .s .now) (a .at) 0 []
+none c = strides.none-arm _ _ _ (at-code (c .before) .pre .0) (sym (c .before .code-at .ensures) ∙ c .if6 .taken)
+
+coded : (c : tie.Else6) →
+    let a = at-code (c .before) .args in
+    strides.Coded (a .k) (a .s .now) (a .at) (c .before .code-at .result) (a .at + codedLen (c .before .code-at .result))
+coded c = strides.code-arm _ _ _ (at-code (c .before) .pre .0) _ (c .before .code-at .ensures) (c .if6 .left)
+
+letter-at-requires : tie.Need-letter-at-requires
+letter-at-requires c κs = (inside (c .before), omega (arith, c .before .pre .1 .1))
+
+add-t12 : tie.Need-add-t12
+add-t12 c = let e = at-letter (c .before) in omega (arith, inside e, e .pre .1 .0)
+
+returns : tie.Need-returns
+returns c = let a = letter c in (a .next, ap length (a .value))
+
+break-end-requires : tie.Need-break-end-requires
+break-end-requires c κs = inside (at-letter (c .before))
+
+returns-2 : tie.Need-returns-2
+returns-2 c = let a = break c in (a .next, ap length (a .value))
+
+x-at-requires : tie.Need-x-at-requires
+x-at-requires c κs = let e = at-break (c .before) in (inside e, omega (arith, e .pre .1 .1))
+
+add-t14 : tie.Need-add-t14
+add-t14 c = let e = at-x (c .before) in omega (arith, inside e, e .pre .1 .0)
+
+returns-3 : tie.Need-returns-3
+returns-3 c = let a = by-x c in (a .0 .arm .next, sym (a .1) ∙ ap length (a .0 .arm .value))
+
+u-at-requires : tie.Need-u-at-requires
+u-at-requires c κs = let e = at-x (c .before) in (inside e, (e .pre .1 .0, omega (arith, e .pre .1 .1)))
+
+code-value-requires : tie.Need-code-value-requires
+code-value-requires c κs = search needs
+
+value-len-requires : tie.Need-value-len-requires
+value-len-requires c κs = search needs
+
+code-len-requires : tie.Need-code-len-requires
+code-len-requires c κs = search needs
+
+add-t17 : tie.Need-add-t17
+add-t17 c = let e = at-u (c .before .before .before .before .before) in omega (arith, inside e, e .pre .1 .0)
+
+returns-4 : tie.Need-returns-4
+returns-4 c =
+    let v = c .before .before in
+    let h = by-u (v .before .before) in
+    (omega (arith, h .arm .next, c .before .code-len .ensures, c .if5 .taken), v .value-len .ensures ∙ ap length (strides.coded-value h (v .before .code-value .ensures)))
+
+add-t18 : tie.Need-add-t18
+add-t18 c =
+    let t = c .before .before .before .before in
+    omega (arith, by-u t .within, c .before .code-len .ensures, at-u (t .before) .pre .1 .0)
+
+returns-5 : tie.Need-returns-5
+returns-5 c =
+    let v = c .before .before in
+    let h = by-u (v .before .before) in
+    (omega (arith, h .arm .next, c .before .code-len .ensures), v .value-len .ensures ∙ ap length (strides.coded-value h (v .before .code-value .ensures)))
+
+code-at-requires : tie.Need-code-at-requires
+code-at-requires c κs = let e = at-u (c .before) in (omega (arith, inside e), e .pre .1)
+
+returns-6 : tie.Need-returns-6
+returns-6 c = let a = none c in (a .next, ap length (a .value))
+
+code-len-requires-2 : tie.Need-code-len-requires-2
+code-len-requires-2 c κs = search needs
+
+add-t20 : tie.Need-add-t20
+add-t20 c = omega (arith, coded (c .before) .within, c .code-len2 .ensures, at-code (c .before .before) .pre .1 .0)
+
+code-value-requires-2 : tie.Need-code-value-requires-2
+code-value-requires-2 c κs = search needs
+
+value-len-requires-2 : tie.Need-value-len-requires-2
+value-len-requires-2 c κs = search needs
+
+returns-7 : tie.Need-returns-7
+returns-7 c =
+    let l = c .before .before in
+    let h = coded (l .before) in
+    (omega (arith, h .arm .next, l .code-len2 .ensures), c .value-len2 .ensures ∙ ap length (strides.coded-value h (c .before .code-value2 .ensures)))
+
+pub stride-at-spec : {M : Type 1} → statement M
+stride-at-spec =
+    tie.close
+    (tie.spec
+    letter-at-requires
+    add-t12
+    returns
+    break-end-requires
+    returns-2
+    x-at-requires
+    add-t14
+    returns-3
+    u-at-requires
+    code-value-requires
+    value-len-requires
+    code-len-requires
+    add-t17
+    returns-4
+    add-t18
+    returns-5
+    code-at-requires
+    returns-6
+    code-len-requires-2
+    add-t20
+    code-value-requires-2
+    value-len-requires-2
+    returns-7)

@@ -1,0 +1,52 @@
+-- `body::u_at` meets its contract.
+-- Assumes nothing.
+use borrow.Author.Needs.{needs}
+use borrow.Author.Tests.{lt-ltb, le-ltb, eq-eqb, ne-eqb}
+use mathlib.Core.Path.{_∙_}
+use Rattle.body.specs.Stride.{byLetter}
+use Rattle.body.proofs.u_at.Statement.{statement}
+use Rattle.body.proofs.u_at.Tie as tie
+
+add-next : tie.Need-add-next
+add-next c = search needs
+
+returns : tie.Need-returns
+unfolding byLetter
+returns c = rw (le-ltb _ _ (c .if1 .taken))
+
+shared-slice-read-if2 : tie.Need-shared-slice-read-if2
+shared-slice-read-if2 c = search needs
+
+sub-u-code : tie.Need-sub-u-code
+sub-u-code c = search needs
+
+part-u-code-start : tie.Need-part-u-code-start
+part-u-code-start c = search needs
+
+part-u-code-end : tie.Need-part-u-code-end
+part-u-code-end c = search needs
+
+u-code-requires : tie.Need-u-code-requires
+u-code-requires c κs = search needs
+
+returns-2 : tie.Need-returns-2
+unfolding byLetter
+returns-2 c = c .u-code .ensures ∙ rw (lt-ltb _ _ (c .before .before .before .before .if1 .left), eq-eqb _ _ (c .before .before .if2 .taken))
+
+returns-3 : tie.Need-returns-3
+unfolding byLetter
+returns-3 c = rw (lt-ltb _ _ (c .before .before .if1 .left), ne-eqb _ _ (c .if2 .left))
+
+pub u-at-spec : {M : Type 1} → statement M
+u-at-spec =
+    tie.close
+    (tie.spec
+    add-next
+    returns
+    shared-slice-read-if2
+    sub-u-code
+    part-u-code-start
+    part-u-code-end
+    u-code-requires
+    returns-2
+    returns-3)
