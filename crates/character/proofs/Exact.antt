@@ -30,7 +30,7 @@ use Rattle.escape.specs.Escape as escape
 use Rattle.escape.specs.Pieces.{Esc}
 use Rattle.escape.specs.declared.Unescaped.{Unescaped}
 use Rattle.escape.proofs.Exact.{Escapes, escape-sound, escaped, first-two}
-use Rattle.character.specs.Single.{kindOf, offsetOf, allowedIn, unterminated, overlong, empty, suffixedAt, closedAt, decodedAt, plainAt, scalarOf, escapedBy, escapedAt, special, quoteAt, firstAt, singleAt, charRead, byteRead}
+use Rattle.character.specs.Single.{kindOf, offsetOf, allowedIn, unterminated, overlong, empty, suffixedAt, closedAt, Quoted, decodedBy, plainAt, scalarOf, escapedBy, escapedAt, special, quoteAt, firstAt, closedBy, singleAt, charRead, byteRead}
 use Rattle.character.specs.Parts.{openingOf, Plain, Content, char, byte, escape, Tiled}
 use Rattle.character.specs.declared.Quote.{Quote}
 use Rattle.character.specs.declared.Quote.the-variants.{Char, Byte}
@@ -95,7 +95,7 @@ module _ (q : Quote) (s : List ℕ) (opens : s ≡ openingOf q ++ drop (offsetOf
       )) λ bad. suffix-refused s (at + 1) bad) λ other.
       cond-in P (eqb (run (except 39) (drop at s)) (length (drop at s))) (λ f. kinds-in q (length s) .0) λ f. kinds-in q (length s) .1
 
-  escaped-sound : offsetOf q < length s → getD s (offsetOf q) 0 ≡ 92 → Sound q s (escapedAt q s (offsetOf q))
+  escaped-sound : offsetOf q < length s → getD s (offsetOf q) 0 ≡ 92 → Sound q s (closedBy q s (offsetOf q) (escapedAt q s (offsetOf q)))
   unfolding escapedAt
   escaped-sound h e =
       let k = allowedIn q in
@@ -104,33 +104,33 @@ module _ (q : Quote) (s : List ℕ) (opens : s ≡ openingOf q ++ drop (offsetOf
       (subst (λ (r : List ℕ). Escapes k r (escapeOf k r)) (sym there) (escape-sound k (drop (suc (offsetOf q)) s)))
     where
       go : (o : Escaped) → o ≡ escapeOf (allowedIn q) (drop (offsetOf q) s) → Escapes (allowedIn q) (drop (offsetOf q) s) o
-          → Sound q s (escapedBy q s (offsetOf q) o)
+          → Sound q s (closedBy q s (offsetOf q) (escapedBy (offsetOf q) o))
       go (escape.value u n) is x =
           closed-sound (offsetOf q + n) (scalarOf u) (take n (drop (offsetOf q) s)) (escape u x refl)
           (rw (← drop-drop n (offsetOf q) s) (take-append-drop n (drop (offsetOf q) s)))
       go (escape.bad num p) is x = escape-refused (allowedIn q) s (offsetOf q) h num p is
 
 plain-sound : (q : Quote) (s : List ℕ) → s ≡ openingOf q ++ drop (offsetOf q) s → offsetOf q < length s → Plain (getD s (offsetOf q) 0)
-    → Sound q s (plainAt q s (offsetOf q))
+    → Sound q s (closedBy q s (offsetOf q) (plainAt q s (offsetOf q)))
 plain-sound Char s opens l p = go (decode (drop 1 s)) refl
   where
-    go : (d : Decoded) → decode (drop 1 s) ≡ d → Sound Char s (decodedAt s 1 d)
+    go : (d : Decoded) → decode (drop 1 s) ≡ d → Sound Char s (closedBy Char s 1 (decodedBy d))
     go (decoded.Char c n) e =
         let f = found-at s 1 c n e in
         let first : getD (encode c ++ drop (1 + n) s) 0 0 ≡ getD s 1 0 = ap (λ (r : List ℕ). getD r 0 0) (f .1) ∙ getD-drop 1 s 0 0 in
         closed-sound Char s opens (1 + n) c (encode c) (char refl (f .0) (plain-char c _ (first-byte c (drop (1 + n) s)) (rw first p)) refl) (f .1)
     go decoded.Bad e = kinds-in Char (length s) .0
 plain-sound Byte s opens l p =
-    cond-lt (Sound Byte s) (getD s 2 0) 128
+    cond-lt (λ (o : Quoted). Sound Byte s (closedBy Byte s 2 o)) (getD s 2 0) 128
     (λ h. closed-sound Byte s opens 3 (getD s 2 0) (getD s 2 0 ∷ []) (byte refl h p refl) (sym (drop-cons s 2 0 l)))
     (λ h. omega arith)
 
 single-sound : (q : Quote) (s : List ℕ) → s ≡ openingOf q ++ drop (offsetOf q) s → Sound q s (singleAt q s)
 unfolding singleAt firstAt quoteAt
 single-sound q s opens =
-    let P : Outcome → Type 0 = Sound q s in
     let at : ℕ = offsetOf q in
-    cond-lt P at (length s) (λ h.
+    let P : Quoted → Type 0 = λ o. Sound q s (closedBy q s at o) in
+    cond-lt (Sound q s) at (length s) (λ h.
     cond-eq P (getD s at 0) 39 (λ e. cond-in P (eqb (getD s (at + 1) 0) 39) (λ f. omega arith) λ f. kinds-in q (length s) .2) λ quote.
     cond-in P (special (getD s at 0)) (λ f. omega arith) λ blank.
     cond-eq P (getD s at 0) 92 (escaped-sound q s opens h)
@@ -205,16 +205,16 @@ module _ (q : Quote) (s : List ℕ) {e v : ℕ} (t : Tiled q s e v) where
   first-is =
       ap (λ (n : ℕ). getD s n 0) (sym (add-zero (offsetOf q))) ∙ sym (getD-drop (offsetOf q) s 0 0) ∙ ap (λ (r : List ℕ). getD r 0 0) behind
 
-  single-first : singleAt q s ≡ firstAt q s (offsetOf q)
+  single-first : singleAt q s ≡ closedBy q s (offsetOf q) (firstAt q s (offsetOf q))
   unfolding singleAt
   single-first =
       rw (lt-ltb (offsetOf q) (length s) (omega (arith, length-drop (offsetOf q) s, ap length behind, length-append (t .content) (39 ∷ t .suf))))
 
-  of-plain : Plain (getD s (offsetOf q) 0) → singleAt q s ≡ plainAt q s (offsetOf q)
+  of-plain : Plain (getD s (offsetOf q) 0) → singleAt q s ≡ closedBy q s (offsetOf q) (plainAt q s (offsetOf q))
   unfolding firstAt
   of-plain p = single-first ∙ rw (ne-eqb _ 39 (p .quote), p .blank, ne-eqb _ 92 (p .backslash))
 
-  of-escape : getD s (offsetOf q) 0 ≡ 92 → singleAt q s ≡ escapedAt q s (offsetOf q)
+  of-escape : getD s (offsetOf q) 0 ≡ 92 → singleAt q s ≡ closedBy q s (offsetOf q) (escapedAt q s (offsetOf q))
   unfolding firstAt special
   of-escape h = single-first ∙ rw h
 
@@ -222,7 +222,8 @@ module _ (q : Quote) (s : List ℕ) {e v : ℕ} (t : Tiled q s e v) where
   unfolding escapedAt tail
   escape-complete u x is =
       of-escape (first-is ∙ first-two (39 ∷ t .suf) x .2)
-      ∙ ap (escapedBy q s (offsetOf q)) (ap (escapeOf (allowedIn q)) behind ∙ escaped (allowedIn q) (39 ∷ t .suf) x refl)
+      ∙ ap (λ (o : Escaped). closedBy q s (offsetOf q) (escapedBy (offsetOf q) o))
+      (ap (escapeOf (allowedIn q)) behind ∙ escaped (allowedIn q) (39 ∷ t .suf) x refl)
       ∙ closed-complete (length (t .content)) (scalarOf u) refl (sym is)
 
 plain-complete : (s : List ℕ) {e v : ℕ} (t : Tiled Char s e v) → Scalar v → Plain v → t .content ≡ encode v → singleAt Char s ≡ accepted 4 e (value v)
@@ -231,7 +232,7 @@ plain-complete s {v = v} t sc p is =
     let there : t .content ++ r ≡ encode v ++ r = rw is in
     let first : getD s 1 0 ≡ getD (encode v ++ r) 0 0 = first-is Char s t ∙ ap (λ (l : List ℕ). getD l 0 0) there in
     of-plain Char s t (rw first (plain-byte v _ (first-byte v r) p))
-    ∙ ap (decodedAt s 1) (ap decode (behind Char s t ∙ there) ∙ decode-encode v r sc)
+    ∙ ap (λ (d : Decoded). closedBy Char s 1 (decodedBy d)) (ap decode (behind Char s t ∙ there) ∙ decode-encode v r sc)
     ∙ closed-complete Char s t (length (encode v)) v (ap length (sym is)) refl
 
 ascii-complete : (s : List ℕ) {e v : ℕ} (t : Tiled Byte s e v) → v < 128 → Plain v → t .content ≡ v ∷ [] → singleAt Byte s ≡ accepted 6 e (value v)

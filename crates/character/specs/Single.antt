@@ -1,12 +1,12 @@
 -- What litrs's `CharLit::parse` and `ByteLit::parse` answer (01, Quoted kinds), in their order of tests. The two differ in where the
 -- character starts, in what may stand there, and in three refusals.
 -- Assumes nothing.
-use Prim.Native.Nat.{ℕ, _+_, _≤_, _<_}
+use Prim.Native.Nat.{ℕ, _+_, _<_}
 use mathlib.Core.Bool.{Bool, cond, _||_, _&&_}
 use mathlib.Core.List.{List, [], _∷_}
 use lib.Dec.{eqb, ltb}
 use lib.ListN.{length, getD, drop}
-use Rattle.err.specs.Outcome.{Outcome, refused, accepted, none, between, shift, value}
+use Rattle.err.specs.Outcome.{Outcome, Place, refused, accepted, none, between, shift, value}
 use Rattle.err.specs.Numbers.{numberOf}
 use Rattle.err.specs.Reading.{placeOf}
 use Rattle.scan.specs.Run.{run}
@@ -77,27 +77,25 @@ closedAt q s at v =
     (refused (unterminated q) none)
     (refused (overlong q) none))
 
--- what stands between the quotes, at an offset: behind a value the literal closes, a refusal is the literal's
-abbrev pub innerOf : Quote → List ℕ → ℕ → Inner → Outcome
-innerOf q s at (inner.Value v n) = closedAt q s (at + n) v
-innerOf q s at (inner.Refused k p) = refused (numberOf k) (placeOf p)
+-- what stands between the quotes: its number and how many bytes it has; or the refusal's number and its span
+pub data Quoted : Type 0 where
+  content : ℕ → ℕ → Quoted
+  fault : ℕ → Place → Quoted
 
--- what is read there, if it is a value, ends in the text
-abbrev pub Inside : List ℕ → ℕ → Inner → Type 0
-Inside s at (inner.Value v n) = at + n ≤ length s
-Inside s at (inner.Refused k p) = Unit {0}
+-- 01's number and span for each case of the answer
+abbrev pub innerOf : Inner → Quoted
+innerOf (inner.Value v n) = content v n
+innerOf (inner.Refused k p) = fault (numberOf k) (placeOf p)
 
--- the character at an offset, as RFC 3629 decodes it; in a UTF-8 text there is one unless the text ends there
-abbrev pub decodedAt : List ℕ → ℕ → Decoded → Outcome
-decodedAt s at (decoded.Char c n) = closedAt Char s (at + n) c
-decodedAt s at decoded.Bad = refused 19 none
+-- the character, as RFC 3629 decodes it; in a UTF-8 text there is one unless the text ends there
+abbrev pub decodedBy : Decoded → Quoted
+decodedBy (decoded.Char c n) = content c n
+decodedBy decoded.Bad = fault 19 none
 
 -- a character that stands for itself; a byte above 127 is 25
-abbrev pub plainAt : Quote → List ℕ → ℕ → Outcome
-plainAt Char s at = decodedAt s at (decode (drop at s))
-plainAt Byte s at =
-    cond (ltb (getD s at 0) 128) (closedAt Byte s (at + 1) (getD s at 0))
-    (refused 25 (between at (at + 1)))
+abbrev pub plainAt : Quote → List ℕ → ℕ → Quoted
+plainAt Char s at = decodedBy (decode (drop at s))
+plainAt Byte s at = cond (ltb (getD s at 0) 128) (content (getD s at 0) 1) (fault 25 (between at (at + 1)))
 
 -- litrs's `unwrap_char` and `unwrap_byte`: the number of what an escape stands for, which is never a dropped line break
 abbrev pub scalarOf : Unescaped → ℕ
@@ -105,32 +103,41 @@ scalarOf unescaped.Nothing = 0
 scalarOf (unescaped.Byte b) = b
 scalarOf (unescaped.Unicode c) = c
 
-abbrev pub escapedBy : Quote → List ℕ → ℕ → Escaped → Outcome
-escapedBy q s at (escape.value u n) = closedAt q s (at + n) (scalarOf u)
-escapedBy q s at (escape.bad num p) = refused num (shift at p)
+-- an escape's span is counted from the escape
+abbrev pub escapedBy : ℕ → Escaped → Quoted
+escapedBy at (escape.value u n) = content (scalarOf u) n
+escapedBy at (escape.bad num p) = fault num (shift at p)
 
 -- an escape: "in chars and bytes it does" see the text's last character
-unfoldable pub escapedAt : Quote → List ℕ → ℕ → Outcome
-escapedAt q s at = escapedBy q s at (escapeOf (allowedIn q) (drop at s))
+unfoldable pub escapedAt : Quote → List ℕ → ℕ → Quoted
+escapedAt q s at = escapedBy at (escapeOf (allowedIn q) (drop at s))
 
 -- LF, tab, CR
 unfoldable pub special : ℕ → Bool
 special b = eqb b 10 || (eqb b 9 || eqb b 13)
 
 -- a quote at once: 26 where another follows, else the literal is empty
-unfoldable pub quoteAt : Quote → List ℕ → ℕ → Outcome
-quoteAt q s at = cond (eqb (getD s (at + 1) 0) 39) (refused 26 (between at (at + 1))) (refused (empty q) none)
+unfoldable pub quoteAt : Quote → List ℕ → ℕ → Quoted
+quoteAt q s at = cond (eqb (getD s (at + 1) 0) 39) (fault 26 (between at (at + 1))) (fault (empty q) none)
 
-unfoldable pub firstAt : Quote → List ℕ → ℕ → Outcome
+-- by the first byte between the quotes
+unfoldable pub firstAt : Quote → List ℕ → ℕ → Quoted
 firstAt q s at =
     cond (eqb (getD s at 0) 39) (quoteAt q s at)
-    (cond (special (getD s at 0)) (refused 27 (between at (at + 1)))
+    (cond (special (getD s at 0)) (fault 27 (between at (at + 1)))
     (cond (eqb (getD s at 0) 92) (escapedAt q s at)
     (plainAt q s at)))
 
+-- behind the content the literal closes; a fault there is the literal's
+abbrev pub closedBy : Quote → List ℕ → ℕ → Quoted → Outcome
+closedBy q s at (content v n) = closedAt q s (at + n) v
+closedBy q s at (fault num p) = refused num p
+
 -- of a text that starts with `'` or `b'`
 unfoldable pub singleAt : Quote → List ℕ → Outcome
-singleAt q s = cond (ltb (offsetOf q) (length s)) (firstAt q s (offsetOf q)) (refused (unterminated q) none)
+singleAt q s =
+    cond (ltb (offsetOf q) (length s)) (closedBy q s (offsetOf q) (firstAt q s (offsetOf q)))
+    (refused (unterminated q) none)
 
 -- whether a text starts with `'` or `b'`
 abbrev pub opensBy : Quote → List ℕ → Bool

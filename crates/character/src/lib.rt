@@ -26,7 +26,6 @@ ghost use Rattle.character.specs.Single.{
   suffixedAt,
   closedAt,
   innerOf,
-  Inside,
   plainAt,
   scalarOf,
   escapedAt,
@@ -177,8 +176,7 @@ pub enum Inner {
 
 // A char that stands for itself.
 fn plain_char(text: &[u8], at: usize) -> Inner
-    ensures { λ r. ⌜ innerOf Quote.Char (now (text .entry)) at r ≡ plainAt Quote.Char (now (text .entry)) at ⌝ }
-    ensures { λ r. ⌜ Inside (now (text .entry)) at r ⌝ }
+    ensures { λ r. ⌜ innerOf r ≡ plainAt Quote.Char (now (text .entry)) at ⌝ }
 {
     let found = utf8::decode_char(text, at);
     let Decoded::Char { scalar, len } = found else {
@@ -190,8 +188,7 @@ fn plain_char(text: &[u8], at: usize) -> Inner
 // A byte that stands for itself.
 fn plain_byte(text: &[u8], at: usize) -> Inner
     requires { ⌜ at < length (now text) ⌝ }
-    ensures { λ r. ⌜ innerOf Quote.Byte (now (text .entry)) at r ≡ plainAt Quote.Byte (now (text .entry)) at ⌝ }
-    ensures { λ r. ⌜ Inside (now (text .entry)) at r ⌝ }
+    ensures { λ r. ⌜ innerOf r ≡ plainAt Quote.Byte (now (text .entry)) at ⌝ }
 {
     let b = text[at];
     if b < 128 {
@@ -205,8 +202,7 @@ fn plain_byte(text: &[u8], at: usize) -> Inner
 
 fn plain(text: &[u8], at: usize, q: Quote) -> Inner
     requires { ⌜ at < length (now text) ⌝ }
-    ensures { λ r. ⌜ innerOf q (now (text .entry)) at r ≡ plainAt q (now (text .entry)) at ⌝ }
-    ensures { λ r. ⌜ Inside (now (text .entry)) at r ⌝ }
+    ensures { λ r. ⌜ innerOf r ≡ plainAt q (now (text .entry)) at ⌝ }
 {
     match q {
         Quote::Char => plain_char(text, at),
@@ -228,8 +224,7 @@ fn scalar(u: Unescaped) -> u32
 // An escape, which sees the text to its end.
 fn escaped(text: &[u8], at: usize, q: Quote) -> Inner
     requires { ⌜ at < length (now text) ⌝ }
-    ensures { λ r. ⌜ innerOf q (now (text .entry)) at r ≡ escapedAt q (now (text .entry)) at ⌝ }
-    ensures { λ r. ⌜ Inside (now (text .entry)) at r ⌝ }
+    ensures { λ r. ⌜ innerOf r ≡ escapedAt q (now (text .entry)) at ⌝ }
 {
     let found = escape::unescape(&text[at..], q.allowed());
     match found {
@@ -254,8 +249,7 @@ fn is_special(b: u8) -> bool
 // The first byte between the quotes.
 fn first(text: &[u8], at: usize, q: Quote) -> Inner
     requires { ⌜ at < length (now text) ⌝ }
-    ensures { λ r. ⌜ innerOf q (now (text .entry)) at r ≡ firstAt q (now (text .entry)) at ⌝ }
-    ensures { λ r. ⌜ Inside (now (text .entry)) at r ⌝ }
+    ensures { λ r. ⌜ innerOf r ≡ firstAt q (now (text .entry)) at ⌝ }
 {
     let b = text[at];
     if b == b'\'' {
@@ -276,8 +270,7 @@ fn first(text: &[u8], at: usize, q: Quote) -> Inner
 // A quote at once: another behind it is one that was not escaped.
 fn quote_first(text: &[u8], at: usize, q: Quote) -> Inner
     requires { ⌜ at < length (now text) ⌝ }
-    ensures { λ r. ⌜ innerOf q (now (text .entry)) at r ≡ quoteAt q (now (text .entry)) at ⌝ }
-    ensures { λ r. ⌜ Inside (now (text .entry)) at r ⌝ }
+    ensures { λ r. ⌜ innerOf r ≡ quoteAt q (now (text .entry)) at ⌝ }
 {
     if scan::byte_at(text, at + 1) == b'\'' {
         return Inner::Refused(

@@ -6,7 +6,7 @@ use lib.ListN.{drop}
 use Rattle.scan.proofs.Parts.{part-to-end}
 use Rattle.escape.specs.Escape.{escapedOf, escapeOf}
 use Rattle.character.specs.Single.{allowedIn, escapedBy, escapedAt}
-use Rattle.character.proofs.Within.{escape-ends, escape-span}
+use Rattle.character.proofs.Within.{escape-span}
 use borrow.Author.Needs.{needs}
 use Rattle.character.proofs.escaped.Statement.{statement}
 use Rattle.character.proofs.escaped.Tie as tie
@@ -34,7 +34,7 @@ by-escape c = c .unescape .ensures ∙ rw (c .before .allowed .ensures, part-to-
 
 escaped-is : (c : tie.After-unescape) →
     let a = c .before .before .before .before .args in
-    escapedAt (a .q) (a .text .now) (a .at) ≡ escapedBy (a .q) (a .text .now) (a .at) (escapedOf (c .unescape .result))
+    escapedAt (a .q) (a .text .now) (a .at) ≡ escapedBy (a .at) (escapedOf (c .unescape .result))
 unfolding escapedAt
 escaped-is c = rw (← by-escape c)
 
@@ -55,16 +55,13 @@ offset-span-requires c κs =
 
 returns : tie.Need-returns
 returns c =
-    let b = c .before .before in (
-      rw (escaped-is (b .before .before), b .found .given .1, c .scalar .ensures),
-      escape-ends _ _ _ (b .before .before .before .before .before .before .pre) _ _
-          (sym (ap escapedOf (b .found .given .1)) ∙ by-escape (b .before .before)) .1,
-    )
+    let b = c .before .before in
+    rw (escaped-is (b .before .before), b .found .given .1, c .scalar .ensures)
 
 returns-2 : tie.Need-returns-2
 returns-2 c =
     let b = c .before .before in
-    (rw (escaped-is (b .before .before), b .found2 .given .1, c .offset-span .ensures), tt)
+    rw (escaped-is (b .before .before), b .found2 .given .1, c .offset-span .ensures)
 
 pub escaped-spec : {M : Type 1} → statement M
 escaped-spec =

@@ -25,7 +25,7 @@ add-t10 c = search needs
 
 returns-2 : tie.Need-returns-2
 unfolding firstAt
-returns-2 c = (rw (ne-eqb _ 39 (c .before .before .if1 .left), sym (c .before .is-special .ensures) ∙ c .if2 .taken), tt)
+returns-2 c = rw (ne-eqb _ 39 (c .before .before .if1 .left), sym (c .before .is-special .ensures) ∙ c .if2 .taken)
 
 escaped-requires : tie.Need-escaped-requires
 escaped-requires c κs = search needs

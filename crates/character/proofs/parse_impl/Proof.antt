@@ -1,11 +1,12 @@
 -- `character::parse_impl` meets its contract.
 -- Assumes nothing.
-use mathlib.Core.Path.{_≡_, sym}
+use mathlib.Core.Path.{_≡_, sym, ap, _∙_}
 use Prim.Native.Nat.{_+_, _≤_}
 use native.Mathlib.Omega.{arith}
 use lib.ListN.{length}
 use borrow.Author.Tests.{lt-ltb, le-ltb}
-use Rattle.character.specs.Single.{innerOf, singleAt}
+use Rattle.character.specs.Single.{innerOf, closedBy, singleAt}
+use Rattle.character.proofs.Within.{content-ends}
 use borrow.Author.Needs.{needs}
 use Rattle.character.proofs.parse_impl.Statement.{statement}
 use Rattle.character.proofs.parse_impl.Tie as tie
@@ -26,9 +27,9 @@ first-requires c κs = search needs
 -- what stands between the quotes decides
 by-content : (c : tie.After-first) →
     let a = c .before .before .before .before .args in
-    singleAt (a .q) (a .text .now) ≡ innerOf (a .q) (a .text .now) (c .before .before .offset .result) (c .first .result)
+    singleAt (a .q) (a .text .now) ≡ closedBy (a .q) (a .text .now) (c .before .before .offset .result) (innerOf (c .first .result))
 unfolding singleAt
-by-content c = rw (← c .before .before .offset .ensures, lt-ltb _ _ (c .before .if1 .left)) (sym (c .first .ensures .0))
+by-content c = rw (← c .before .before .offset .ensures, lt-ltb _ _ (c .before .if1 .left), c .first .ensures)
 
 enum-known-content : tie.Need-enum-known-content
 enum-known-content c = search needs
@@ -37,7 +38,11 @@ enum-known-content c = search needs
 within : (c : tie.After-known-told) →
     let b = c .before .before .before in
     b .before .before .offset .result + c .before .content .given .0 .1 .0 ≤ length (b .before .before .before .before .args .text .now)
-within c = rw (c .before .content .given .1) at (c .before .before .before .first .ensures .1)
+within c =
+    let b = c .before .before .before in
+    let a = b .before .before .before .before .args in
+    content-ends (a .text .now) (b .before .before .offset .result) (b .before .if1 .left) (a .q)
+    (sym (ap innerOf (c .before .content .given .1)) ∙ b .first .ensures)
 
 add-closed : tie.Need-add-closed
 add-closed c = omega (arith, within c)

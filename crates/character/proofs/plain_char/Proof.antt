@@ -1,10 +1,6 @@
 -- `character::plain_char` meets its contract.
 -- Assumes nothing.
-use mathlib.Core.Path.{_≡_, sym, _∙_}
-use lib.ListN.{drop}
-use Rattle.utf8.specs.Decode.{decode}
-use Rattle.utf8.specs.declared.Decoded.the-variants.{Char}
-use Rattle.utf8.proofs.At.{found-bounds}
+use mathlib.Core.Path.{sym, _∙_}
 use borrow.Author.Needs.{needs}
 use Rattle.character.proofs.plain_char.Statement.{statement}
 use Rattle.character.proofs.plain_char.Tie as tie
@@ -19,16 +15,10 @@ enum-told : tie.Need-enum-told
 enum-told c = search needs
 
 returns : tie.Need-returns
-returns c = (rw (sym (c .before .before .decode-char .ensures) ∙ c .enum-told .given .1), tt)
-
-decoded : (c : tie.After-found) →
-    let a = c .before .before .before .before .args in
-    let f = c .found .given .0 in
-    decode (drop (a .at) (a .text .now)) ≡ Char (f .0) (f .1 .0)
-decoded c = sym (c .before .before .decode-char .ensures) ∙ c .found .given .1
+returns c = rw (sym (c .before .before .decode-char .ensures) ∙ c .enum-told .given .1)
 
 returns-2 : tie.Need-returns-2
-returns-2 c = (rw (decoded (c .before)), found-bounds _ _ _ _ (decoded (c .before)) .1)
+returns-2 c = rw (sym (c .before .before .before .decode-char .ensures) ∙ c .before .found .given .1)
 
 pub plain-char-spec : {M : Type 1} → statement M
 plain-char-spec =

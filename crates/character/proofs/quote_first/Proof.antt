@@ -18,14 +18,14 @@ add-t8 c = search needs
 
 returns : tie.Need-returns
 unfolding quoteAt
-returns c = (rw (eq-eqb _ 39 (sym (c .before .byte-at .ensures) ∙ c .if1 .taken)), tt)
+returns c = rw (eq-eqb _ 39 (sym (c .before .byte-at .ensures) ∙ c .if1 .taken))
 
 empty-requires : tie.Need-empty-requires
 empty-requires c κs = search needs
 
 returns-2 : tie.Need-returns-2
 unfolding quoteAt
-returns-2 c = (rw (ne-eqb _ 39 (λ e. c .before .if1 .left (c .before .before .byte-at .ensures ∙ e)), c .empty .ensures), tt)
+returns-2 c = rw (ne-eqb _ 39 (λ e. c .before .if1 .left (c .before .before .byte-at .ensures ∙ e)), c .empty .ensures)
 
 pub quote-first-spec : {M : Type 1} → statement M
 quote-first-spec =
