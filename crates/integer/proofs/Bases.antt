@@ -1,18 +1,18 @@
 -- The base of a text by its first two bytes, the ends of the bases, and the length of a base's prefix.
 -- Assumes nothing.
 use mathlib.Core.Path.{_≡_, refl}
-use mathlib.Core.Bool.{cond}
+use mathlib.Core.Bool.{Bool, true, false, cond, _&&_}
 use mathlib.Core.List.{List, [], _∷_}
 use Prim.Native.Nat.{ℕ, _≤_, _<_}
 use native.Mathlib.Omega.{arith}
-use borrow.Author.Tests.{eq-eqb, ne-eqb}
+use borrow.Author.Tests.{ne-eqb}
 use lib.Dec.{eqb}
 use lib.ListN.{length, getD}
 use Rattle.err.specs.Reading.{baseOf, prefixOf}
 use Rattle.err.specs.declared.IntegerBase.{IntegerBase}
 use Rattle.err.specs.declared.IntegerBase.the-variants.{Binary, Octal, Decimal, Hexadecimal}
-use Rattle.scan.proofs.Cases.{cond-in}
-use Rattle.integer.specs.Integer.{baseAt, prefixLen}
+use Rattle.scan.proofs.Cases.{cond-in, clash}
+use Rattle.integer.specs.Integer.{baseAt, hasPrefix, prefixLen}
 use Rattle.integer.specs.Parts.{Prefixed, dec, bin, oct, hex}
 
 pub base-short : (s : List ℕ) → length s < 2 → 10 ≡ baseAt s
@@ -25,9 +25,51 @@ pub base-other : (s : List ℕ) → (getD s 0 0 ≡ 48 → ⊥) → 10 ≡ baseA
 unfolding baseAt
 base-other s h = rw (ne-eqb _ _ h)
 
-pub base-by : (s : List ℕ) → getD s 0 0 ≡ 48 → baseAt s ≡ cond (eqb (getD s 1 0) 98) 2 (cond (eqb (getD s 1 0) 111) 8 (cond (eqb (getD s 1 0) 120) 16 10))
-unfolding baseAt
-base-by s h = rw (eq-eqb _ _ h)
+-- a text by the tests of the three prefixes
+module _ (s : List ℕ) where
+  abbrev By : Bool → Bool → Bool → Bool → ℕ
+  By z b o x = cond z (cond b 2 (cond o 8 (cond x 16 10))) 10
+
+  pub base-binary : hasPrefix Binary s ≡ true → 2 ≡ baseAt s
+  unfolding hasPrefix baseAt
+  base-binary = go (eqb (getD s 0 0) 48) (eqb (getD s 1 0) 98) (eqb (getD s 1 0) 111) (eqb (getD s 1 0) 120)
+    where
+      go : (z b o x : Bool) → (z && b) ≡ true → 2 ≡ By z b o x
+      go true true o x h = refl
+      go true false o x h = clash h refl
+      go false b o x h = clash h refl
+
+  pub base-octal : hasPrefix Binary s ≡ false → hasPrefix Octal s ≡ true → 8 ≡ baseAt s
+  unfolding hasPrefix baseAt
+  base-octal = go (eqb (getD s 0 0) 48) (eqb (getD s 1 0) 98) (eqb (getD s 1 0) 111) (eqb (getD s 1 0) 120)
+    where
+      go : (z b o x : Bool) → (z && b) ≡ false → (z && o) ≡ true → 8 ≡ By z b o x
+      go true true o x g h = clash refl g
+      go true false true x g h = refl
+      go true false false x g h = clash h refl
+      go false b o x g h = clash h refl
+
+  pub base-hexadecimal : hasPrefix Binary s ≡ false → hasPrefix Octal s ≡ false → hasPrefix Hexadecimal s ≡ true → 16 ≡ baseAt s
+  unfolding hasPrefix baseAt
+  base-hexadecimal = go (eqb (getD s 0 0) 48) (eqb (getD s 1 0) 98) (eqb (getD s 1 0) 111) (eqb (getD s 1 0) 120)
+    where
+      go : (z b o x : Bool) → (z && b) ≡ false → (z && o) ≡ false → (z && x) ≡ true → 16 ≡ By z b o x
+      go true true o x g f h = clash refl g
+      go true false true x g f h = clash refl f
+      go true false false true g f h = refl
+      go true false false false g f h = clash h refl
+      go false b o x g f h = clash h refl
+
+  pub base-decimal : hasPrefix Binary s ≡ false → hasPrefix Octal s ≡ false → hasPrefix Hexadecimal s ≡ false → 10 ≡ baseAt s
+  unfolding hasPrefix baseAt
+  base-decimal = go (eqb (getD s 0 0) 48) (eqb (getD s 1 0) 98) (eqb (getD s 1 0) 111) (eqb (getD s 1 0) 120)
+    where
+      go : (z b o x : Bool) → (z && b) ≡ false → (z && o) ≡ false → (z && x) ≡ false → 10 ≡ By z b o x
+      go true true o x g f h = clash refl g
+      go true false true x g f h = clash refl f
+      go true false false true g f h = clash refl h
+      go true false false false g f h = refl
+      go false b o x g f h = refl
 
 pub base-ends : (b : IntegerBase) → (0 < baseOf b) × (baseOf b ≤ 16)
 base-ends Binary = (omega arith, omega arith)

@@ -2,12 +2,13 @@
 -- Assumes nothing.
 use Prim.Native.Nat.{ℕ, _+_, _≤_}
 use mathlib.Core.Path.{_≡_}
-use mathlib.Core.Bool.{cond}
+use mathlib.Core.Bool.{Bool, cond, _&&_}
 use mathlib.Core.List.{List, [], _∷_}
 use lib.Dec.{eqb}
 use lib.ListN.{length, getD, take, drop}
 use Rattle.err.specs.Outcome.{Outcome, refused, accepted, none, between, digits}
-use Rattle.err.specs.Reading.{baseOf, outcomeOf}
+use Rattle.err.specs.Reading.{baseOf, prefixBytes, outcomeOf}
+use Rattle.err.specs.declared.IntegerBase.{IntegerBase}
 use Rattle.err.specs.declared.IntegerLit.{IntegerLit}
 use Rattle.err.specs.declared.Reading.the-variants as reading
 use Rattle.scan.specs.Run.{run}
@@ -25,6 +26,10 @@ baseAt s =
     (cond (eqb (getD s 1 0) 111) 8
     (cond (eqb (getD s 1 0) 120) 16 10)))
     10
+
+-- whether a text starts with the prefix of a base that has one
+unfoldable pub hasPrefix : IntegerBase → List ℕ → Bool
+hasPrefix base s = eqb (getD s 0 0) (getD (prefixBytes base) 0 0) && eqb (getD s 1 0) (getD (prefixBytes base) 1 0)
 
 -- the length of a base's prefix
 unfoldable pub prefixLen : ℕ → ℕ

@@ -14,13 +14,26 @@ ghost use lib.Seq.{slice};
 ghost use Rattle.err.specs.Reading.{outcomeOf, baseOf, prefixOf};
 ghost use Rattle.scan.specs.Run.{run};
 ghost use Rattle.parse.specs.Sets.{digit};
-ghost use Rattle.integer.specs.Integer.{baseAt, Scanned, parsedOf, afterSuffix, integerAt, integerRead};
+ghost use Rattle.integer.specs.Integer.{baseAt, hasPrefix, Scanned, parsedOf, afterSuffix, integerAt, integerRead};
 ghost use Rattle.integer.specs.Value.{number, within, bounded, valuedOf};
 
 // An integer literal, or why a text is none.
 pub enum Parsed {
     Lit(IntegerLit),
     Refused(ParseErrorKind, Span),
+}
+
+// Whether a text starts with the prefix of a base that has one.
+fn has_prefix(text: &[u8], base: IntegerBase) -> bool
+    requires { ⌜ 2 ≤ length (now text) ⌝ }
+    ensures { λ r. ⌜ r ≡ hasPrefix base (now (text .entry)) ⌝ }
+{
+    let prefix = base.prefix();
+    let bytes = prefix.bytes;
+    if text[0] != bytes[0] {
+        return false;
+    }
+    text[1] == bytes[1]
 }
 
 // The base that the first two bytes announce.
@@ -30,16 +43,16 @@ fn base_of(text: &[u8]) -> IntegerBase
     if text.len() < 2 {
         return IntegerBase::Decimal;
     }
-    if text[0] == b'0' {
-        match text[1] {
-            b'b' => IntegerBase::Binary,
-            b'o' => IntegerBase::Octal,
-            b'x' => IntegerBase::Hexadecimal,
-            _ => IntegerBase::Decimal,
-        }
-    } else {
-        IntegerBase::Decimal
+    if has_prefix(text, IntegerBase::Binary) {
+        return IntegerBase::Binary;
     }
+    if has_prefix(text, IntegerBase::Octal) {
+        return IntegerBase::Octal;
+    }
+    if has_prefix(text, IntegerBase::Hexadecimal) {
+        return IntegerBase::Hexadecimal;
+    }
+    IntegerBase::Decimal
 }
 
 // How many digits and `_` stand at the front.

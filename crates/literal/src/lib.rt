@@ -13,6 +13,7 @@ use types::IntegerFound;
 use types::IntegerType;
 use types::Largest;
 ghost use mathlib.Core.Path.{_≡_};
+ghost use mathlib.Core.Bool.{false};
 ghost use Prim.Native.Nat.{_≤_};
 ghost use lib.ListN.{length};
 ghost use Rattle.integer.specs.Value.{valuedOf};
@@ -144,18 +145,17 @@ fn kind_of(entry: u64) -> Kind
     }
 }
 
-// The reading of a checked text. Each kind's parser is called at this one place.
+// The reading of a checked text that is not read as a bool. Each other kind's parser is called at this one place.
 fn entry(code: u64, text: &[u8]) -> Reading
-    requires { ⌜ (code ≤ 8) × (length (now text) ≤ 65536) ⌝ }
+    requires { ⌜ (code ≤ 8) × (length (now text) ≤ 65536) × (boolAt code (now text) ≡ false) ⌝ }
     ensures { λ r. ⌜ outcomeOf r ≡ entryRead code (now (text .entry)) ⌝ }
 {
     let e = chosen(code, text);
     match e {
-        1 => boolean::parse(text),
+        1 | 9 => err::perr_nowhere(ParseErrorKind::InvalidLiteral),
         2 => integer::parse(text),
         3 => float::parse(text),
         4 | 6 => character::parse(text, quote_of(e)),
-        9 => err::perr_nowhere(ParseErrorKind::InvalidLiteral),
         _ => string::parse(text, kind_of(e)),
     }
 }

@@ -43,7 +43,8 @@ enum-told c = search needs
 entry-requires : tie.Need-entry-requires
 entry-requires c κs =
     let k = c .before .before in
-    (k .before .before .before .if1 .left, fault-passed _ (sym (k .check-text .ensures) ∙ ap faultOf (c .enum-told .given .1)) .0)
+    let b = k .before in
+    (b .before .before .if1 .left, fault-passed _ (sym (k .check-text .ensures) ∙ ap faultOf (c .enum-told .given .1)) .0, sym (b .before .is-bool-at .ensures) ∙ b .if2 .left)
 
 returns-3 : tie.Need-returns-3
 unfolding readAt
