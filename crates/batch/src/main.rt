@@ -104,6 +104,7 @@ fn answer_front(line: &mut [u8], at: usize, out: &[u8], n: usize)
     requires { ⌜ at ≤ length (now line) ⌝ }
     ensures { λ r. ⌜ length (now (line .exit)) ≡ length (now (line .entry)) ⌝ }
 {
+    // cannot arise: so many bytes were written there
     if out.len() < n {
         write_line(line, at);
         return;

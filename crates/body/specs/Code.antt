@@ -1,4 +1,5 @@
--- The piece that a backslash starts, as one number, and the steps that end a body.
+-- The piece that a backslash starts, as one number, and the steps that end a body. For contracts between functions, no sentence of a
+-- document: the laws of proofs/Codes join it to `stepOf`.
 -- Assumes nothing.
 use Prim.Native.Nat.{ℕ}
 use mathlib.Core.Bool.{cond}

@@ -1,4 +1,5 @@
--- The piece that a backslash at an offset starts: by what stands behind it, and by where the next one starts and what it stands for.
+-- The piece that a backslash at an offset starts: by what stands behind it, and by where the next one starts and what it stands for. For
+-- contracts between functions, no sentence of a document: the laws of proofs/Strides join it to `backslashOf`.
 -- Assumes nothing.
 use Prim.Native.Nat.{ℕ, _+_, _-_}
 use mathlib.Core.Bool.{cond}

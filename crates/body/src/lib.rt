@@ -331,6 +331,7 @@ fn stride_at(s: &[u8], at: usize, end: usize, k: Allowed) -> Stride
             value: n,
         };
     }
+    // what is left is `\0`, or refused
     let c = code_at(s, at, end, k);
     if c == 0 {
         return Stride { next: 0, value: 0 };
@@ -379,6 +380,7 @@ fn put_piece(out: &mut [u8], s: &[u8], at: usize, end: usize, k: Allowed) -> Str
             value: n,
         };
     }
+    // what is left is `\0`, or refused
     let c = code_at(s, at, end, k);
     if c == 0 {
         return Stride { next: 0, value: 0 };
@@ -389,7 +391,8 @@ fn put_piece(out: &mut [u8], s: &[u8], at: usize, end: usize, k: Allowed) -> Str
     }
 }
 
-// Why a quoted body ends where neither a piece with a code nor a byte that stands for itself is.
+// Why a quoted body ends where neither a piece nor a byte that stands for itself is: by litrs's steps, of which only those that end it are
+// reached from here.
 fn ending_at(s: &[u8], at: usize, last: usize, k: Allowed) -> Ending
     requires { ⌜ (last ≡ lastLen (now s)) × Stopped (stepOf k (drop at (now s))) ⌝ }
     ensures { λ r. ⌜ stop (endOf r) ≡ stepOf k (drop at (now (s .entry))) ⌝ }

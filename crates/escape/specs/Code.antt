@@ -1,4 +1,5 @@
--- A piece of a body as one number: a loop gets it in one go, and 0 where there is none.
+-- A piece of a body as one number: a loop gets it in one go, and 0 where there is none. For contracts between functions, no sentence of a
+-- document: laws `code-len` and `code-value` say that the number tells the piece.
 -- Assumes nothing.
 use Prim.Native.Nat.{ℕ, _+_, _-_, _*_, _/_, _%_}
 use mathlib.Core.Bool.{cond}

@@ -1,11 +1,11 @@
 -- What litrs's `unescape` (escape.rs) answers for the escape at the front of a byte list, in its order of tests.
 -- Assumes nothing.
-use Prim.Native.Nat.{ℕ, _+_, _*_, _≤_}
+use Prim.Native.Nat.{ℕ, _+_, _*_}
 use mathlib.Core.Bool.{Bool, true, cond, not, _&&_, _||_}
 use mathlib.Core.List.{List, [], _∷_}
 use lib.Dec.{eqb, ltb, leb}
 use lib.ListN.{length, getD, take, drop}
-use Rattle.err.specs.Outcome.{Place, none, between}
+use Rattle.err.specs.Outcome.{Place, between}
 use Rattle.err.specs.Numbers.{numberOf}
 use Rattle.err.specs.Reading.{placeOf}
 use Rattle.scan.specs.Run.{run}

@@ -38,6 +38,7 @@ fn report(text: &[u8], out: &mut [u8]) {
     let answer = settle::settle(text, out);
     match answer {
         Settled::Formed(kind, n) => {
+            // always so: the form was written there
             if n <= out.len() {
                 print_form(kind, &out[..n]);
             }

@@ -69,7 +69,7 @@ readAt code s =
     (cond (eqb (textFault s) 0) (entryRead code s) (refused (textFault s) none))
     (refused 42 none)
 
--- ---- the entry that reads a text
+-- ---- the entry that reads a text: for contracts between functions, no sentence of a document; law `chosen-read` joins them to the above
 
 -- a bool by entry 0 or 1: nothing is wrong with such a text, so that it need not be checked (law `bool-read`)
 unfoldable pub boolAt : ℕ → List ℕ → Bool

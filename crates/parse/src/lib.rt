@@ -291,7 +291,7 @@ fn middle_class(b: u8) -> u8
     if b == b'_' { 16 } else { 19 }
 }
 
-// The class of one byte, by comparisons. A scan that goes beyond 16 bytes looks them up in the table.
+// The class of one byte, by comparisons. A long scan of a suffix or of digits below a base looks them up in the table (`run_len`).
 pub fn class_of(b: u8) -> u8
     ensures { λ r. ⌜ r ≡ classOf b ⌝ }
 {

@@ -358,6 +358,7 @@ fn put_piece(out: &mut [u8], s: &[u8], at: usize, end: usize, k: Allowed, style:
             value: put_value(out, escape::code_value(x), style),
         };
     }
+    // what is left is by `u`, or `\0`, or refused
     let c = body::code_at(s, at, end, k);
     if c == 0 {
         return Stride { next: 0, value: 0 };

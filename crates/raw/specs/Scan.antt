@@ -1,4 +1,5 @@
--- The bytes of a raw body that a scan passes over without counting hashes.
+-- The bytes of a raw body that a scan passes over without counting hashes. For contracts between functions, no sentence of a document: law
+-- `passes-step` says that each is a step of `rawStepOf`.
 -- Assumes nothing.
 use Prim.Native.Nat.{ℕ}
 use mathlib.Core.Bool.{Bool, true, false, cond, not, _&&_}

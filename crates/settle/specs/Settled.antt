@@ -112,11 +112,13 @@ pub record Fits (s : List ℕ) (o : Outcome) (have : ℕ) : Type 0 where
   pub form : bareBy s o ≡ len (length (bareFormBy s o))
   pub room : length (formBy s o) ≤ have
 
+-- ---- forms that fit for sure: for contracts between functions, no sentence of a document; law `surely-ready` says that they are given
+
 -- a value of n bytes, each at most four in a form, with quotes and letter, and a suffix of m bytes fit into a form and into `have` bytes
 unfoldable pub boundFits : ℕ → ℕ → ℕ → Bool
 boundFits n m have = leb (4 * n + 3 + m) 65536 && leb (4 * n + 3 + m) have
 
--- a string that is not raw, in a text of at most `have` bytes that has no control character: its form is no longer than the text
+-- of kind 5: a string that is not raw, in a text of at most `have` bytes that has no control character, has a form no longer than the text
 abbrev pub textFits : Rawness → List ℕ → ℕ → Bool
 textFits notRaw s have = leb (length s) have && allShown s
 textFits (raw h) s have = false

@@ -244,7 +244,7 @@ fn bound_fits(value_len: usize, rest: usize, have: usize) -> bool
     n <= have
 }
 
-// The same for a string of kind 5. In a text without control characters no form of one that is not raw is longer than the text.
+// The same for a string (kind 5): in a text without control characters no form of one that is not raw is longer than the text.
 fn string_fits(text: &[u8], lit: StringLit, have: usize) -> bool
     requires { ⌜ outcomeOf (reading.String lit) ≡ readAt 0 (now text) ⌝ }
     ensures { λ r. ⌜ r ≡ surelyFits (now (text .entry)) (outcomeOf (reading.String lit)) have ⌝ }

@@ -158,6 +158,7 @@ fn put_value(out: &mut [u8], text: &[u8], k: Kind, lit: StringLit) -> usize
             if end + 1 == lit.start_suffix {
                 return buffer::put_bytes(out, &text[from..end]);
             }
+            // dropped line breaks only
             if n == 0 {
                 return 0;
             }

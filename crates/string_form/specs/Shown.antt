@@ -1,4 +1,5 @@
--- Texts without control characters: there the form of a string that is not raw is no longer than the text (`proofs/Short`).
+-- Texts without control characters: there the form of a string (kind 5) that is not raw is no longer than the text (law `string-short`).
+-- For contracts between functions; no sentence of a document.
 -- Assumes nothing.
 use mathlib.Core.Bool.{Bool, true, false, cond}
 use mathlib.Core.List.{List}

@@ -72,6 +72,7 @@ fn value_len(text: &[u8], lit: StringLit, k: Kind) -> usize
             if end + 1 == lit.start_suffix {
                 return quoting::forms_len(&text[from..end], style_of(k));
             }
+            // dropped line breaks only
             if n == 0 {
                 return 0;
             }
@@ -98,6 +99,7 @@ fn put_value(out: &mut [u8], text: &[u8], lit: StringLit, k: Kind) -> usize
             if end + 1 == lit.start_suffix {
                 return quoting::put_forms(out, &text[from..end], style_of(k));
             }
+            // dropped line breaks only
             if n == 0 {
                 return 0;
             }

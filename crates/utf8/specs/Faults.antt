@@ -1,4 +1,4 @@
--- UTF-8 byte by byte, by RFC 3629, section 4; `proofs/Clean` shows that a text without a fault is one that `isUtf8` accepts.
+-- UTF-8 byte by byte, by RFC 3629, section 4; law `clean-text` says that the texts without a fault are exactly those that `isUtf8` accepts.
 --   UTF8-1 = 00-7F                 UTF8-tail = 80-BF
 --   UTF8-2 = C2-DF tail
 --   UTF8-3 = E0 A0-BF tail / E1-EC 2(tail) / ED 80-9F tail / EE-EF 2(tail)
