@@ -1,4 +1,4 @@
--- The digits of a mantissa: of two parts, byte by byte, by blocks and by runs; before the first significant one and behind the last.
+-- The digits of a mantissa: of two parts, byte by byte and by blocks; before the first significant one and behind the last.
 -- Assumes nothing.
 use mathlib.Core.Path.{_≡_, refl, sym, ap, _∙_}
 use mathlib.Core.Bool.{Bool, true, false, cond}
@@ -8,26 +8,18 @@ use native.Mathlib.Numerals.{add-one}
 use native.Mathlib.Omega.{arith}
 use lib.Dec.{eqb}
 use lib.ListN.{length, getD, take, drop, length-append, length-take, length-drop, take-append-drop}
-use lib.Seq.{drop-cons, drop-drop, take-suc, take-add, length-take-le}
+use lib.Seq.{take-suc, take-add, length-take-le}
 use borrow.Author.Tests.{ne-eqb, not-true, not-false}
-use Rattle.scan.specs.Run.{run, outs, All, Stops}
+use Rattle.scan.specs.Run.{All}
 use Rattle.scan.proofs.Cases.{cond-in, cond-eq}
-use Rattle.scan.proofs.Runs.{run-le, run-all, run-stops, run-part}
-use Rattle.parse.proofs.Classes.{within-ends, within-is}
-use Rattle.scaling.specs.Digits.{isDigit, significant, insignificant, digitsOf, lastEnd}
+use Rattle.parse.specs.Sets.{decDigit}
+use Rattle.parse.proofs.Classes.{within-ends, within-is, dec-digit-within}
+use Rattle.scaling.specs.Digits.{significant, insignificant, digitsOf, lastEnd}
 use Rattle.scaling.specs.Scaled.{part}
-
-pub digit-ends : (b : ℕ) → isDigit b ≡ true → (48 ≤ b) × (b ≤ 57)
-unfolding isDigit
-digit-ends b t = within-ends 48 57 b t
 
 pub significant-ends : (b : ℕ) → significant b ≡ true → (49 ≤ b) × (b ≤ 57)
 unfolding significant
 significant-ends b t = within-ends 49 57 b t
-
-pub digit-within : (b : ℕ) → 48 ≤ b → b ≤ 57 → isDigit b ≡ true
-unfolding isDigit
-digit-within b h g = within-is 48 57 b h g
 
 pub significant-within : (b : ℕ) → 49 ≤ b → b ≤ 57 → significant b ≡ true
 unfolding significant
@@ -50,14 +42,14 @@ unfolding insignificant
 is-insignificant b t = not-false (significant b) t
 
 -- a significant digit is a digit
-pub significant-digit : (b : ℕ) → significant b ≡ true → isDigit b ≡ true
-significant-digit b t = let e = significant-ends b t in digit-within b (omega arith) (omega arith)
+pub significant-digit : (b : ℕ) → significant b ≡ true → decDigit b ≡ true
+significant-digit b t = let e = significant-ends b t in dec-digit-within b (omega arith) (omega arith)
 
 -- ---- the digits
 
 pub digits-append : (s t : List ℕ) → digitsOf (s ++ t) ≡ digitsOf s ++ digitsOf t
 digits-append [] t = refl
-digits-append (b ∷ s) t = by-test (isDigit b) (digits-append s t)
+digits-append (b ∷ s) t = by-test (decDigit b) (digits-append s t)
   where
     by-test : (x : Bool) → digitsOf (s ++ t) ≡ digitsOf s ++ digitsOf t
         → cond x (b ∷ digitsOf (s ++ t)) (digitsOf (s ++ t)) ≡ cond x (b ∷ digitsOf s) (digitsOf s) ++ digitsOf t
@@ -68,7 +60,7 @@ pub digits-short : (s : List ℕ) → length (digitsOf s) ≤ length s
 digits-short [] = omega arith
 digits-short (b ∷ s) =
     let h = digits-short s in
-    cond-in (λ (u : List ℕ). length u ≤ suc (length s)) (isDigit b) (λ e. omega arith) (λ e. omega arith)
+    cond-in (λ (u : List ℕ). length u ≤ suc (length s)) (decDigit b) (λ e. omega arith) (λ e. omega arith)
 
 -- a part is no longer than the whole
 pub part-short : (a e m : ℕ) (s : List ℕ) → length s ≤ m → length (part a e s) ≤ m
@@ -80,41 +72,33 @@ digits-front i s =
     let e = ap (λ (u : List ℕ). length (digitsOf u)) (take-append-drop i s) in
     omega (arith, simp (digits-append, length-append) at e)
 
--- each byte is a digit or not
-digits-outs : (s : List ℕ) → length (digitsOf s) + outs isDigit s ≡ length s
-digits-outs [] = refl
-digits-outs (b ∷ s) = by-test (isDigit b) (digits-outs s)
+-- where there are as many digits as bytes, they are all the bytes
+pub digits-whole : (s : List ℕ) → length (digitsOf s) ≡ length s → digitsOf s ≡ s
+digits-whole [] = λ h. refl
+digits-whole (b ∷ s) = by-test (decDigit b) (digits-short s) (digits-whole s)
   where
-    by-test : (x : Bool) → length (digitsOf s) + outs isDigit s ≡ length s
-        → length (cond x (b ∷ digitsOf s) (digitsOf s)) + (cond x 0 1 + outs isDigit s) ≡ suc (length s)
-    by-test true e = omega arith
-    by-test false e = omega arith
-
--- a block of digits alone is passed at once
-pub digits-block : (s : List ℕ) (i e : ℕ) → length (digitsOf (part i e s)) ≡ e - i → i ≤ e → e ≤ length s
-    → i + run isDigit (drop i s) ≡ e + run isDigit (drop e s)
-digits-block s i e h l g =
-    run-part isDigit s i e (omega (arith, digits-outs (part i e s), length-take (e - i) (drop i s), length-drop i s)) l g
-
--- digits alone are all their digits
-digits-all : (s : List ℕ) → All isDigit s → digitsOf s ≡ s
-digits-all [] h = refl
-digits-all (b ∷ s) h = rw (h .0) (ap (λ (u : List ℕ). b ∷ u) (digits-all s (h .1)))
+    by-test : (x : Bool) → length (digitsOf s) ≤ length s → (length (digitsOf s) ≡ length s → digitsOf s ≡ s)
+        → length (cond x (b ∷ digitsOf s) (digitsOf s)) ≡ suc (length s) → cond x (b ∷ digitsOf s) (digitsOf s) ≡ b ∷ s
+    by-test true g f h = ap (λ (u : List ℕ). b ∷ u) (f (omega arith))
+    by-test false g f h = absurd (omega arith)
 
 -- a loop that stands at i: one byte more of the front
 module _ (s : List ℕ) (i : ℕ) (h : i < length s) where
-  pub digits-more : length (digitsOf (take (i + 1) s)) ≡ length (digitsOf (take i s)) + cond (isDigit (getD s i 0)) 1 0
-  digits-more = rw (add-one, take-suc s i 0 h, digits-append, length-append) (by-test (isDigit (getD s i 0)))
+  pub digits-more : length (digitsOf (take (i + 1) s)) ≡ length (digitsOf (take i s)) + cond (decDigit (getD s i 0)) 1 0
+  digits-more = rw (add-one, take-suc s i 0 h, digits-append, length-append) (by-test (decDigit (getD s i 0)))
     where
       by-test : (x : Bool) → let n = length (digitsOf (take i s)) in n + length (cond x (getD s i 0 ∷ []) []) ≡ n + cond x 1 0
       by-test true = refl
       by-test false = refl
 
-  pub digits-pass : isDigit (getD s i 0) ≡ false → digitsOf (take (i + 1) s) ≡ digitsOf (take i s)
+  pub digits-one : decDigit (getD s i 0) ≡ true → digitsOf (take (i + 1) s) ≡ digitsOf (take i s) ++ (getD s i 0 ∷ [])
+  digits-one t = rw (add-one, take-suc s i 0 h, digits-append, t)
+
+  pub digits-pass : decDigit (getD s i 0) ≡ false → digitsOf (take (i + 1) s) ≡ digitsOf (take i s)
   digits-pass t = rw (add-one, take-suc s i 0 h, digits-append, t) (append-nil _)
 
 -- a part more
-digits-to : (i e : ℕ) (s : List ℕ) → i ≤ e → digitsOf (take e s) ≡ digitsOf (take i s) ++ digitsOf (part i e s)
+pub digits-to : (i e : ℕ) (s : List ℕ) → i ≤ e → digitsOf (take e s) ≡ digitsOf (take i s) ++ digitsOf (part i e s)
 digits-to i e s h =
     let q : i + (e - i) ≡ e = omega arith in
     ap (λ (n : ℕ). digitsOf (take n s)) (sym q) ∙ rw take-add (digits-append (take i s) (part i e s))
@@ -125,22 +109,6 @@ pub count-to : (i e : ℕ) (s : List ℕ) (n m : ℕ) → i ≤ e → n ≡ leng
 count-to i e s n m h p q =
     let is : n + m ≡ length (digitsOf (take e s)) = omega (arith, simp length-append at (ap length (digits-to i e s h))) in
     (is, omega (arith, digits-short (take e s), length-take e s))
-
--- a run of digits more, and the byte behind it
-module _ (s : List ℕ) (i e : ℕ) (at : e ≡ i + run isDigit (drop i s)) where
-  pub run-inside : i ≤ length s → (i ≤ e) × (e ≤ length s)
-  run-inside h = (omega arith, omega (arith, run-le isDigit (drop i s), length-drop i s))
-
-  pub digits-run : digitsOf (take e s) ≡ digitsOf (take i s) ++ part i e s
-  digits-run =
-      let q : e - i ≡ run isDigit (drop i s) = omega arith in
-      digits-to i e s (omega arith)
-      ∙ ap (λ (u : List ℕ). digitsOf (take i s) ++ u) (digits-all (part i e s) (rw q (run-all isDigit (drop i s))))
-
-  pub run-behind : e < length s → isDigit (getD s e 0) ≡ false
-  run-behind h =
-      let stops : Stops isDigit (drop e s) = rw (at, ← drop-drop) (run-stops isDigit (drop i s)) in
-      rw (drop-cons s e 0 h) at stops
 
 -- ---- the last significant digit
 

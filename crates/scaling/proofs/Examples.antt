@@ -11,7 +11,9 @@ use Rattle.grammar.specs.Numbers.{SIGN}
 use Rattle.grammar.specs.Values.{digitValue, numberIn}
 use Rattle.form.specs.Reduced.{zeros, strip, reduce}
 use Rattle.form.specs.Form.{reducedForm}
-use Rattle.scaling.specs.Digits.{isDigit, significant, insignificant, digitsOf, lastEnd}
+use Rattle.parse.specs.Class.{classOf}
+use Rattle.parse.specs.Sets.{decDigit}
+use Rattle.scaling.specs.Digits.{significant, insignificant, digitsOf, lastEnd}
 use Rattle.scaling.specs.Scaled.{part, floatAt, near}
 
 -- `00_1.5_00e+0_7f64`, whose parts end at 4, 9 and 14
@@ -31,5 +33,5 @@ pub record Examples : Type 0 where
   pub far : near (floatAt (49 ∷ 101 ∷ 45 ∷ 49 ∷ 48 ∷ 48 ∷ 48 ∷ 48 ∷ 48 ∷ 49 ∷ []) 1 1 10) ≡ false
 
 pub examples : Examples
-unfolding floatAt numberIn digitValue LOW SIGN zeros strip reduce reducedForm decimal isDigit significant insignificant
+unfolding floatAt numberIn digitValue LOW SIGN zeros strip reduce reducedForm decimal classOf decDigit significant insignificant
 examples = record { number = refl; form = refl; first = refl; last = refl; digits = refl; far = refl }

@@ -15,9 +15,11 @@ use Rattle.scan.proofs.Runs.{run-le, run-all, run-stops}
 use Rattle.buffer.specs.Digits.{decimal}
 use Rattle.buffer.proofs.Decimals.{last, more}
 use Rattle.grammar.specs.Values.{digitValue, numberFrom}
-use Rattle.scaling.specs.Digits.{isDigit, significant, insignificant, digitsOf, lastEnd}
+use Rattle.parse.specs.Sets.{decDigit}
+use Rattle.parse.proofs.Classes.{dec-digit-ends}
+use Rattle.scaling.specs.Digits.{significant, insignificant, digitsOf, lastEnd}
 use Rattle.scaling.specs.Scaled.{part}
-use Rattle.scaling.proofs.Digits.{digit-ends, not-insignificant, is-insignificant, last-insignificant, significant-ends, significant-digit, significant-within, digits-append, last-append, last-behind}
+use Rattle.scaling.proofs.Digits.{not-insignificant, is-insignificant, last-insignificant, significant-ends, significant-digit, significant-within, digits-append, last-append, last-behind}
 
 -- the number of digits behind a number a
 abbrev pub count : ℕ → List ℕ → ℕ
@@ -35,17 +37,17 @@ pub count-append : (a : ℕ) (s t : List ℕ) → count a (s ++ t) ≡ count (co
 count-append a s t = rw digits-append (from-append a (digitsOf s) (digitsOf t))
 
 -- a digit that is not significant is `0`
-zero-digit : (b : ℕ) → isDigit b ≡ true → insignificant b ≡ true → b ≡ 48
+zero-digit : (b : ℕ) → decDigit b ≡ true → insignificant b ≡ true → b ≡ 48
 zero-digit b f t =
-    let e = digit-ends b f in
+    let e = dec-digit-ends b f in
     by-lt 48 b (λ l. clash (significant-within b (omega arith) (omega arith)) (not-insignificant b t)) (λ l. omega arith)
 
 -- digits that are not significant are a power of ten
 pub count-insignificant : (a : ℕ) (s : List ℕ) → All insignificant s → count a s ≡ a * 10 ^ length (digitsOf s)
 count-insignificant a [] h = sym (mul-one a)
-count-insignificant a (b ∷ s) h = by-test (isDigit b) refl (count-insignificant a s (h .1)) (count-insignificant (a * 10 + digitValue b) s (h .1))
+count-insignificant a (b ∷ s) h = by-test (decDigit b) refl (count-insignificant a s (h .1)) (count-insignificant (a * 10 + digitValue b) s (h .1))
   where
-    by-test : (x : Bool) → isDigit b ≡ x → count a s ≡ a * 10 ^ length (digitsOf s)
+    by-test : (x : Bool) → decDigit b ≡ x → count a s ≡ a * 10 ^ length (digitsOf s)
         → count (a * 10 + digitValue b) s ≡ (a * 10 + digitValue b) * 10 ^ length (digitsOf s)
         → numberFrom 10 a (cond x (b ∷ digitsOf s) (digitsOf s)) ≡ a * 10 ^ length (cond x (b ∷ digitsOf s) (digitsOf s))
     by-test false x e g = e
@@ -67,7 +69,7 @@ count-last a (b ∷ s) =
     rw (significant-digit b t, value b (omega arith) (omega arith)) (omega arith))
     (λ t h. absurd (omega arith)))
     (λ e h.
-    cond-in (λ (u : List ℕ). 0 < numberFrom 10 a u % 10) (isDigit b)
+    cond-in (λ (u : List ℕ). 0 < numberFrom 10 a u % 10) (decDigit b)
     (λ t. count-last (a * 10 + digitValue b) s (omega arith)) (λ t. count-last a s (omega arith)))
 
 -- ---- digits without a leading zero are the decimal digits of their number
@@ -80,14 +82,14 @@ decimal-step a d p h =
 
 after : (a : ℕ) (s : List ℕ) → 0 < a → decimal (count a s) ≡ decimal a ++ digitsOf s
 after a [] p = sym (append-nil _)
-after a (b ∷ s) p = by-test (isDigit b) refl (after a s p) (after (a * 10 + digitValue b) s (omega arith))
+after a (b ∷ s) p = by-test (decDigit b) refl (after a s p) (after (a * 10 + digitValue b) s (omega arith))
   where
-    by-test : (x : Bool) → isDigit b ≡ x → decimal (count a s) ≡ decimal a ++ digitsOf s
+    by-test : (x : Bool) → decDigit b ≡ x → decimal (count a s) ≡ decimal a ++ digitsOf s
         → decimal (count (a * 10 + digitValue b) s) ≡ decimal (a * 10 + digitValue b) ++ digitsOf s
         → decimal (numberFrom 10 a (cond x (b ∷ digitsOf s) (digitsOf s))) ≡ decimal a ++ cond x (b ∷ digitsOf s) (digitsOf s)
     by-test false x e g = e
     by-test true x e g =
-        let h = digit-ends b x in
+        let h = dec-digit-ends b x in
         let v = value b (h .0) (h .1) in
         let k : 48 + (b - 48) ≡ b = omega arith in
         g ∙ rw v (ap (λ (t : List ℕ). t ++ digitsOf s) (decimal-step a (b - 48) p (omega arith)) ∙ append-assoc (decimal a) _ (digitsOf s) ∙ rw k)

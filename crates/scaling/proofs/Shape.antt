@@ -24,23 +24,23 @@ use Rattle.grammar.specs.Notation.{begins}
 use Rattle.grammar.specs.Suffixes.{LOW}
 use Rattle.grammar.specs.Numbers.{SIGN}
 use Rattle.grammar.specs.Values.{digitValue, plain, numberFrom, numberIn}
-use Rattle.scaling.specs.Digits.{isDigit, digitsOf}
+use Rattle.scaling.specs.Digits.{digitsOf}
 use Rattle.scaling.specs.Scaled.{part, floatAt}
-use Rattle.scaling.proofs.Digits.{digit-within, digits-append}
+use Rattle.scaling.proofs.Digits.{digits-append}
 use Rattle.scaling.proofs.Numbers.{count, value}
 
 -- ---- digits and `_`
 
 -- their digits are what is left without `_`
 digits-plain : (s : List ℕ) → All (digit 10) s → digitsOf s ≡ plain s
-unfolding isDigit LOW
+unfolding decDigit classOf LOW
 digits-plain [] h = refl
 digits-plain (b ∷ s) h =
     let e = digits-plain s (h .1) in
     ⊎-elim (λ q. rw q e)
     (λ t.
     let g = dec-digit-ends b t in
-    rw (digit-within b (g .0) (g .1), ne-eqb b 95 (λ q. omega arith)) (ap (λ (u : List ℕ). b ∷ u) e))
+    rw (t, ne-eqb b 95 (λ q. omega arith)) (ap (λ (u : List ℕ). b ∷ u) e))
     (digit-ten-cases b (h .0))
 
 plain-append : (s t : List ℕ) → plain (s ++ t) ≡ plain s ++ plain t
@@ -85,7 +85,7 @@ pub record Shape (s : List ℕ) (i f e : ℕ) : Type 0 where
 -- what stands behind the period, and it has the fraction's digits
 fraction-part : (a b c : List ℕ) → Fraction b → let n = length a in
     digitsOf b ≡ plain (part (n + 1) (n + length b) (a ++ (b ++ c)))
-unfolding isDigit
+unfolding decDigit classOf
 fraction-part a b c (no-fraction e) =
     let q : length a + length b - (length a + 1) ≡ 0 = omega (arith, ap length e) in
     rw (q, e)

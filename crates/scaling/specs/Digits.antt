@@ -4,10 +4,7 @@ use mathlib.Core.Bool.{Bool, cond, not, _&&_}
 use mathlib.Core.List.{List, [], _∷_}
 use Prim.Native.Nat.{ℕ, suc}
 use lib.Dec.{eqb, leb}
-
--- `0` to `9`
-unfoldable pub isDigit : ℕ → Bool
-isDigit b = leb 48 b && leb b 57
+use Rattle.parse.specs.Sets.{decDigit}
 
 -- `1` to `9`
 unfoldable pub significant : ℕ → Bool
@@ -20,7 +17,7 @@ insignificant b = not (significant b)
 -- the digits alone
 abbrev pub digitsOf : List ℕ → List ℕ
 digitsOf [] = []
-digitsOf (b ∷ s) = cond (isDigit b) (b ∷ digitsOf s) (digitsOf s)
+digitsOf (b ∷ s) = cond (decDigit b) (b ∷ digitsOf s) (digitsOf s)
 
 -- where the last significant digit ends; 0 where there is none
 abbrev pub lastEnd : List ℕ → ℕ

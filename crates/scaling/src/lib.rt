@@ -10,10 +10,11 @@ ghost use Rattle.scan.specs.Run.{run};
 ghost use Rattle.buffer.specs.Buffer.{Wrote};
 ghost use Rattle.grammar.specs.Notation.{begins, byte};
 ghost use Rattle.grammar.specs.Numbers.{SIGN};
+ghost use Rattle.parse.specs.Sets.{decDigit};
 ghost use Rattle.integer.specs.Value.{number};
 ghost use Rattle.form.specs.Reduced.{reduce};
 ghost use Rattle.form.specs.Form.{reducedForm};
-ghost use Rattle.scaling.specs.Digits.{isDigit, significant, insignificant, digitsOf, lastEnd};
+ghost use Rattle.scaling.specs.Digits.{significant, insignificant, digitsOf, lastEnd};
 ghost use Rattle.scaling.specs.Scaled.{numberOf, FloatOf, capped, near, Scales, scalingBy, exponentStart, powerForm, scaledForm, known, too-far, lengthOf};
 
 // Where the digits of the reduced number stand in the mantissa, and its power of ten.
@@ -40,15 +41,6 @@ pub enum FormLen {
 pub struct Exponent {
     pub negative: bool,
     pub size: u64,
-}
-
-fn is_digit(b: u8) -> bool
-    ensures { λ r. ⌜ r ≡ isDigit b ⌝ }
-{
-    if b < b'0' {
-        return false;
-    }
-    b <= b'9'
 }
 
 fn is_significant(b: u8) -> bool
@@ -89,9 +81,9 @@ fn last_end(s: &[u8]) -> usize
 }
 
 fn one(b: u8) -> u8
-    ensures { λ r. ⌜ (r ≤ 1) × (r ≡ cond (isDigit b) 1 0) ⌝ }
+    ensures { λ r. ⌜ (r ≤ 1) × (r ≡ cond (decDigit b) 1 0) ⌝ }
 {
-    if is_digit(b) { 1 } else { 0 }
+    if parse::is_decimal(b) { 1 } else { 0 }
 }
 
 // How many of at most 255 bytes are digits. With no exit on the way and a sum of one byte the compiler makes vectors of it.
@@ -122,37 +114,36 @@ fn digits_len(s: &[u8]) -> usize
     n + count(&s[i..]) as usize
 }
 
-fn byte_end(s: &[u8], from: usize) -> usize
-    requires { ⌜ from ≤ length (now s) ⌝ }
-    ensures { λ r. ⌜ r ≡ from + run isDigit (drop from (now (s .entry))) ⌝ }
+// The digits, without what stands among them, byte by byte.
+fn put_each(out: &mut [u8], s: &[u8]) -> usize
+    requires { ⌜ length (digitsOf (now s)) ≤ length (now out) ⌝ }
+    ensures { λ r. ⌜ Wrote (digitsOf (now (s .entry))) r (now (out .entry)) (now (out .exit)) ⌝ }
 {
-    let mut i = from;
+    let mut at: usize = 0;
+    let mut i = 0;
     while i < s.len() {
-        if !is_digit(s[i]) {
-            return i;
+        let b = s[i];
+        if parse::is_decimal(b) {
+            out[at] = b;
+            at += 1;
         }
         i += 1;
     }
-    i
+    at
 }
 
-// Where the digits that stand at an offset end: by blocks while there are 64 bytes, then byte by byte.
-fn digits_end(s: &[u8], from: usize) -> usize
-    requires { ⌜ from ≤ length (now s) ⌝ }
-    ensures { λ r. ⌜ r ≡ from + run isDigit (drop from (now (s .entry))) ⌝ }
+// The same of at most 64 bytes: at once where they are digits alone.
+fn put_block(out: &mut [u8], s: &[u8]) -> usize
+    requires { ⌜ (length (now s) ≤ 64) × (length (digitsOf (now s)) ≤ length (now out)) ⌝ }
+    ensures { λ r. ⌜ Wrote (digitsOf (now (s .entry))) r (now (out .entry)) (now (out .exit)) ⌝ }
 {
-    let mut i = from;
-    while 64 <= s.len() - i {
-        let e = i + 64;
-        if count(&s[i..e]) != 64 {
-            return byte_end(s, i);
-        }
-        i = e;
+    if count(s) as usize == s.len() {
+        return buffer::put_bytes(out, s);
     }
-    byte_end(s, i)
+    put_each(out, s)
 }
 
-// The digits, without what stands among them: each run of them at once.
+// The same of any number of bytes, by blocks of 64.
 fn put_digits(out: &mut [u8], s: &[u8]) -> usize
     requires { ⌜ length (digitsOf (now s)) ≤ length (now out) ⌝ }
     ensures { λ r. ⌜ Wrote (digitsOf (now (s .entry))) r (now (out .entry)) (now (out .exit)) ⌝ }
@@ -160,12 +151,9 @@ fn put_digits(out: &mut [u8], s: &[u8]) -> usize
     let mut at: usize = 0;
     let mut i = 0;
     while i < s.len() {
-        let e = digits_end(s, i);
-        at += buffer::put_bytes(&mut out[at..], &s[i..e]);
-        if e == s.len() {
-            return at;
-        }
-        i = e + 1;
+        let stop = scan::nearer(i, 64, s.len());
+        at += put_block(&mut out[at..], &s[i..stop]);
+        i = stop;
     }
     at
 }

@@ -4,14 +4,14 @@ use borrow.Author.Needs.{needs}
 use Rattle.scaling.proofs.one.Statement.{statement}
 use Rattle.scaling.proofs.one.Tie as tie
 
-is-digit-requires : tie.Need-is-digit-requires
-is-digit-requires c κs = search needs
+is-decimal-requires : tie.Need-is-decimal-requires
+is-decimal-requires c κs = search needs
 
 returns : tie.Need-returns
-returns c = (search needs, rw (← c .before .is-digit .ensures, c .if1 .taken))
+returns c = (search needs, rw (← c .before .is-decimal .ensures, c .if1 .taken))
 
 returns-2 : tie.Need-returns-2
-returns-2 c = (search needs, rw (← c .before .is-digit .ensures, c .if1 .left))
+returns-2 c = (search needs, rw (← c .before .is-decimal .ensures, c .if1 .left))
 
 pub one-spec : {M : Type 1} → statement M
-one-spec = tie.close (tie.spec is-digit-requires returns returns-2)
+one-spec = tie.close (tie.spec is-decimal-requires returns returns-2)
