@@ -2,7 +2,7 @@
 -- Assumes nothing.
 use mathlib.Core.Path.{_≡_, refl, ap, sym, _∙_}
 use mathlib.Core.Bool.{Bool, true, false, cond, not, _&&_, and-false}
-use mathlib.Core.List.{List, [], _∷_}
+use mathlib.Core.List.{List}
 use Prim.Native.Nat.{ℕ, zero, suc, _+_, _≤_, _<_}
 use native.Mathlib.Nat.{add-zero}
 use native.Mathlib.Omega.{arith}
@@ -13,6 +13,7 @@ use lib.Seq.{drop-cons, getD-drop}
 use Rattle.scan.specs.Run.{run}
 use Rattle.scan.specs.Sets.{only}
 use Rattle.scan.proofs.Cases.{by-lt, clash}
+use Rattle.scan.proofs.Runs.{run-each}
 use Rattle.escape.specs.Allows.{unicode, allowNul}
 use Rattle.escape.specs.declared.Allowed.{Allowed}
 use Rattle.escape.specs.declared.Unescaped.the-variants.{Byte}
@@ -86,16 +87,6 @@ not-both k m b far = go (rawPlain k b) (eqb b 34) (eqb far m)
 
 -- ---- a quote that closes
 
--- a byte of a run passes its test
-each : (p : ℕ → Bool) (s : List ℕ) (i : ℕ) → i < run p s → p (getD s i 0) ≡ true
-each p [] i h = absurd (omega arith)
-each p (b ∷ s) i h = go i (p b) refl h (each p s)
-  where
-    go : (i : ℕ) (t : Bool) → p b ≡ t → i < cond t (suc (run p s)) 0 → ((j : ℕ) → j < run p s → p (getD s j 0) ≡ true) → p (getD (b ∷ s) i 0) ≡ true
-    go zero true x h f = x
-    go (suc i) true x h f = f i (omega arith)
-    go i false x h f = absurd (omega arith)
-
 -- where h hashes stand behind a quote, the mark stands h bytes behind it
 marked : (h : ℕ) (s : List ℕ) (i : ℕ) → getD s i 0 ≡ 34 → h ≤ run (only 35) (drop (i + 1) s) → getD s (i + h) 0 ≡ markOf h
 unfolding markOf only
@@ -104,7 +95,7 @@ marked (suc n) s i e g =
     let there : i + suc n ≡ i + 1 + n = omega arith in
     ap (λ (n : ℕ). getD s n 0) there
     ∙ sym (getD-drop (i + 1) s n 0)
-    ∙ eqb-true _ _ (each (only 35) (drop (i + 1) s) n (omega arith))
+    ∙ eqb-true _ _ (run-each (only 35) (drop (i + 1) s) n (omega arith))
     ∙ rw (ne-eqb (suc n) 0 (λ x. omega arith))
 
 module _ (k : Allowed) (h : ℕ) (s : List ℕ) (i : ℕ) (l : i < length s) where

@@ -31,16 +31,19 @@ run-le p (b ∷ s) = let h = run-le p s in cond-in (λ (n : ℕ). n ≤ length (
 
 -- ---- what a run has found
 
+-- a byte of a run passes
+pub run-each : (p : ℕ → Bool) (s : List ℕ) (i : ℕ) → i < run p s → p (getD s i 0) ≡ true
+run-each p [] i h = absurd (omega arith)
+run-each p (b ∷ s) i h = go i (p b) refl h (run-each p s)
+  where
+    go : (i : ℕ) (t : Bool) → p b ≡ t → i < cond t (suc (run p s)) 0 → ((j : ℕ) → j < run p s → p (getD s j 0) ≡ true) → p (getD (b ∷ s) i 0) ≡ true
+    go zero true x h f = x
+    go (suc i) true x h f = f i (omega arith)
+    go i false x h f = absurd (omega arith)
+
 -- a run that goes to the end passes every byte
 pub run-every : (p : ℕ → Bool) (s : List ℕ) (i : ℕ) → run p s ≡ length s → i < length s → p (getD s i 0) ≡ true
-run-every p [] i e h = absurd (omega arith)
-run-every p (b ∷ s) i e h = go i (p b) refl e h (run-every p s)
-  where
-    go : (i : ℕ) (t : Bool) → p b ≡ t → cond t (suc (run p s)) 0 ≡ suc (length s) → i < suc (length s)
-        → ((j : ℕ) → run p s ≡ length s → j < length s → p (getD s j 0) ≡ true) → p (getD (b ∷ s) i 0) ≡ true
-    go zero true x e h f = x
-    go (suc i) true x e h f = f i (omega arith) (omega arith)
-    go i false x e h f = absurd (omega arith)
+run-every p s i e h = run-each p s i (omega arith)
 
 -- a byte that does not pass stops the run
 pub run-short : (p : ℕ → Bool) (s : List ℕ) (i : ℕ) → i < length s → p (getD s i 0) ≡ false → eqb (run p s) (length s) ≡ false

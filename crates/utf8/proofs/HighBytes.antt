@@ -1,14 +1,19 @@
--- Laws of the highest byte: how a loop that looks for it goes on, that no byte is above it, and what this says of a part of a text.
+-- Laws of the highest byte: how a loop that looks for it goes on, that no byte is above it, and that a part of a text is ASCII where it is
+-- below 128.
 -- Assumes nothing.
-use mathlib.Core.Path.{_≡_, _∙_}
+use mathlib.Core.Path.{_≡_, refl, sym}
+use mathlib.Core.Bool.{true, false}
 use mathlib.Core.List.{List, [], _∷_}
 use Prim.Native.Nat.{ℕ, zero, suc, _+_, _-_, _≤_, _<_}
 use native.Mathlib.Numerals.{add-one}
 use native.Mathlib.Omega.{arith}
-use lib.ListN.{length, getD, take, drop, drop-of-length-le, length-drop}
-use lib.Seq.{drop-cons, getD-take, getD-drop, length-take-le}
-use Rattle.scan.proofs.Cases.{cond-lt, by-lt}
-use Rattle.utf8.specs.Valid.{largerOf, highestFrom}
+use lib.ListN.{length, getD, take, drop, drop-of-length-le}
+use lib.Seq.{drop-cons}
+use borrow.Author.Tests.{ltb-true, lt-ltb, le-ltb}
+use Rattle.scan.specs.Run.{run, outs}
+use Rattle.scan.proofs.Cases.{cond-lt}
+use Rattle.scan.proofs.Runs.{run-each, run-part}
+use Rattle.utf8.specs.Valid.{ascii, largerOf, highestFrom}
 
 pub highest-more : (m : ℕ) (s : List ℕ) (i : ℕ) → i < length s → highestFrom m (drop i s) ≡ highestFrom (largerOf m (getD s i 0)) (drop (i + 1) s)
 highest-more m s i h = rw (drop-cons s i 0, add-one)
@@ -31,13 +36,28 @@ highest-above m [] k h = absurd (omega arith)
 highest-above m (b ∷ s) zero h = omega (arith, larger-right m b, highest-start (largerOf m b) s)
 highest-above m (b ∷ s) (suc k) h = highest-above (largerOf m b) s k (omega arith)
 
--- bytes below n up to i, and a part from i to e whose highest byte is below n
-pub below-part : (s : List ℕ) (i e n : ℕ) → i ≤ e → e ≤ length s → highestFrom 0 (take (e - i) (drop i s)) < n
-    → ((k : ℕ) → k < i → getD s k 0 < n) → (k : ℕ) → k < e → getD s k 0 < n
-below-part s i e n l g h f k m =
-    by-lt k i (f k) (λ j.
-    let part : List ℕ = take (e - i) (drop i s) in
-    let q : i + (k - i) ≡ k = omega arith in
-    let is : getD part (k - i) 0 ≡ getD s k 0 = getD-take (e - i) (drop i s) (k - i) 0 (omega arith) ∙ rw (getD-drop, q) in
-    let z : length part ≡ e - i = length-take-le (e - i) (drop i s) (omega (arith, length-drop i s)) in
-    omega (arith, highest-above 0 part (k - i) (omega arith)))
+-- ---- ASCII bytes
+
+pub ascii-low : (b : ℕ) → b ≤ 127 → ascii b ≡ true
+unfolding ascii
+ascii-low b h = lt-ltb b 128 (omega arith)
+
+pub ascii-high : (b : ℕ) → 127 < b → ascii b ≡ false
+unfolding ascii
+ascii-high b h = le-ltb b 128 (omega arith)
+
+-- the bytes that are counted are below 128
+pub ascii-each : (s : List ℕ) (n : ℕ) → n ≡ run ascii s → (k : ℕ) → k < n → getD s k 0 < 0x80
+unfolding ascii
+ascii-each s n e k h = ltb-true _ _ (run-each ascii s k (omega arith))
+
+-- no byte of a list is 128 or above, where the highest is below
+highest-low : (m : ℕ) (s : List ℕ) → highestFrom m s < 128 → outs ascii s ≡ 0
+highest-low m [] h = refl
+highest-low m (b ∷ s) h =
+    rw (ascii-low b (omega (arith, larger-right m b, highest-start (largerOf m b) s))) (omega (arith, highest-low (largerOf m b) s h))
+
+-- a part from i to e whose highest byte is below 128 is passed at once
+pub ascii-part : (s : List ℕ) (i e : ℕ) → highestFrom 0 (take (e - i) (drop i s)) < 128 → i ≤ e → e ≤ length s
+    → e + run ascii (drop e s) ≡ i + run ascii (drop i s)
+ascii-part s i e h l g = sym (run-part ascii s i e (highest-low 0 (take (e - i) (drop i s)) h) l g)

@@ -20,6 +20,10 @@ unfoldable pub isUtf8 : List ℕ → Bool
 unfolding charsWithin
 isUtf8 text = charsWithin (length text) text
 
+-- RFC 3629, section 3: a byte 0xxxxxxx is a character of its own, an ASCII one
+unfoldable pub ascii : ℕ → Bool
+ascii b = ltb b 128
+
 -- the larger of two numbers, and the highest number of a list and m: where it is below 128, the list is ASCII
 abbrev pub largerOf : ℕ → ℕ → ℕ
 largerOf a b = cond (ltb a b) b a

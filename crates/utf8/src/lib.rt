@@ -1,11 +1,12 @@
 // UTF-8, as RFC 3629 has it: lengths, characters, texts.
 ghost use mathlib.Core.Path.{_≡_};
-ghost use Prim.Native.Nat.{ℕ, _-_, _≤_, _<_};
+ghost use Prim.Native.Nat.{_+_, _-_, _≤_, _<_};
 ghost use lib.ListN.{length, getD, take, drop};
+ghost use Rattle.scan.specs.Run.{run};
 ghost use Rattle.buffer.specs.Buffer.{Wrote};
 ghost use Rattle.utf8.specs.Utf8.{Scalar, encode};
 ghost use Rattle.utf8.specs.Decode.{lengthFrom, decode2, decode3, decode4, decode, lenOf, PairAt};
-ghost use Rattle.utf8.specs.Valid.{isUtf8, largerOf, highestFrom};
+ghost use Rattle.utf8.specs.Valid.{isUtf8, ascii, largerOf, highestFrom};
 ghost use Rattle.utf8.specs.Cut.{tail, isBoundary, lastLen};
 ghost use Rattle.utf8.specs.Faults.{bit, leastBehind, mostBehind, faultOf, worstFrom, worstBehind, cleanBehind};
 
@@ -155,22 +156,37 @@ fn larger(a: u8, b: u8) -> u8
     if a < b { b } else { a }
 }
 
-// How many bytes at the front are below 128, or fewer: by blocks while there are 64 bytes, then the rest at once.
+// Where the bytes below 128 end that start at an offset, byte by byte.
+fn ascii_end(text: &[u8], from: usize) -> usize
+    ensures { λ r. ⌜ r ≡ from + run ascii (drop from (now (text .entry))) ⌝ }
+{
+    let mut i = from;
+    while i < text.len() {
+        if 127 < text[i] {
+            return i;
+        }
+        i += 1;
+    }
+    i
+}
+
+// How many bytes at the front are below 128: by blocks while there are 64 bytes, then the rest at once. Where one of them has a higher byte,
+// its place is found byte by byte.
 fn ascii_front(text: &[u8]) -> usize
-    ensures { λ r. ⌜ (r ≤ length (now (text .entry))) × ((k : ℕ) → k < r → getD (now (text .entry)) k 0 < 0x80) ⌝ }
+    ensures { λ r. ⌜ r ≡ run ascii (now (text .entry)) ⌝ }
 {
     let mut i = 0;
     while 64 <= text.len() - i {
         let e = i + 64;
         if 127 < highest(&text[i..e]) {
-            return i;
+            return ascii_end(text, i);
         }
         i = e;
     }
     if highest(&text[i..]) < 128 {
         return text.len();
     }
-    i
+    ascii_end(text, i)
 }
 
 // Whether a byte 10xxxxxx stands at an offset; behind the end there is none.

@@ -2,6 +2,9 @@
 -- Assumes nothing.
 use mathlib.Core.Path.{sym, _∙_}
 use native.Mathlib.Omega.{arith}
+use Rattle.scan.proofs.Runs.{run-le}
+use Rattle.utf8.specs.Valid.{ascii}
+use Rattle.utf8.proofs.HighBytes.{ascii-each}
 use Rattle.utf8.proofs.Valid.{isUtf8-ascii}
 use Rattle.utf8.proofs.Clean.{clean-text}
 use Rattle.utf8.proofs.Faults.{part-passed, part-refused, behind-ascii}
@@ -13,15 +16,20 @@ ascii-front-requires : tie.Need-ascii-front-requires
 ascii-front-requires c κs = search needs
 
 returns : tie.Need-returns
-returns c = isUtf8-ascii _ (λ k h. c .before .ascii-front .ensures .1 k (omega arith))
+returns c =
+    let t = c .before .before .before .args .text .now in
+    isUtf8-ascii t (λ k h. ascii-each t _ (c .before .ascii-front .ensures) k (omega arith))
 
 clean-from-requires : tie.Need-clean-from-requires
-clean-from-requires c κs = search needs
+clean-from-requires c κs =
+    let b = c .before .before in
+    (c .if2 .taken, omega (arith, b .ascii-front .ensures, run-le ascii (b .before .before .args .text .now)))
 
 returns-2 : tie.Need-returns-2
 returns-2 c =
     let b = c .before .before .before in
-    c .clean-from .ensures ∙ behind-ascii _ _ (c .before .if2 .taken) (b .ascii-front .ensures .1)
+    let t = b .before .before .args .text .now in
+    c .clean-from .ensures ∙ behind-ascii t _ (c .before .if2 .taken) (ascii-each t _ (b .ascii-front .ensures))
 
 front-fault-requires : tie.Need-front-fault-requires
 front-fault-requires c κs = search needs
