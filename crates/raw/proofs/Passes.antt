@@ -10,6 +10,7 @@ use borrow.Author.Tests.{eqb-true, eqb-false, eq-eqb, ne-eqb}
 use lib.Dec.{eqb}
 use lib.ListN.{length, getD, take, drop}
 use lib.Seq.{drop-cons, getD-drop}
+use Rattle.scan.specs.Bit.{bit}
 use Rattle.scan.specs.Run.{run}
 use Rattle.scan.specs.Sets.{only}
 use Rattle.scan.proofs.Cases.{by-lt, clash}
@@ -64,8 +65,8 @@ stops-plain k m b far t e = go (rawPlain k b) (rw (ne-eqb b 34 e) at t)
     go false e = refl
 
 -- the tests of a quote and of the mark as a sum
-pub both : (k : Allowed) (m b far : ℕ) → cond (eqb b 34) 1 0 + cond (eqb far m) 1 0 ≡ 2 → passes k m b far ≡ false
-unfolding passes
+pub both : (k : Allowed) (m b far : ℕ) → bit (eqb b 34) + bit (eqb far m) ≡ 2 → passes k m b far ≡ false
+unfolding bit passes
 both k m b far = go (rawPlain k b) (eqb b 34) (eqb far m)
   where
     go : (t p q : Bool) → cond p 1 0 + cond q 1 0 ≡ 2 → cond t (not (p && q)) false ≡ false
@@ -75,8 +76,8 @@ both k m b far = go (rawPlain k b) (eqb b 34) (eqb far m)
     go true false false e = absurd (omega arith)
     go false p q e = refl
 
-pub not-both : (k : Allowed) (m b far : ℕ) → (cond (eqb b 34) 1 0 + cond (eqb far m) 1 0 ≡ 2 → ⊥) → passes k m b far ≡ rawPlain k b
-unfolding passes
+pub not-both : (k : Allowed) (m b far : ℕ) → (bit (eqb b 34) + bit (eqb far m) ≡ 2 → ⊥) → passes k m b far ≡ rawPlain k b
+unfolding bit passes
 not-both k m b far = go (rawPlain k b) (eqb b 34) (eqb far m)
   where
     go : (t p q : Bool) → (cond p 1 0 + cond q 1 0 ≡ 2 → ⊥) → cond t (not (p && q)) false ≡ t

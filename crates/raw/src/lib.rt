@@ -127,18 +127,12 @@ fn scan_to(s: &[u8], from: usize, stop: usize, h: usize, mark: u8, k: Allowed) -
     i
 }
 
-fn one(b: bool) -> u8
-    ensures { λ r. ⌜ r ≡ cond b 1 0 ⌝ }
-{
-    if b { 1 } else { 0 }
-}
-
 // Where a byte at j stands in the way of a scan over 64 bytes, or 64. Both tests of a quote are made in any case: with no byte read under a
 // branch the compiler makes vectors of the loop.
 fn raw_place(b: u8, far: u8, j: u8, mark: u8, k: Allowed) -> u8
     ensures { λ r. ⌜ r ≡ cond (passes k mark b far) 64 j ⌝ }
 {
-    if one(b == b'"') + one(far == mark) == 2 {
+    if scan::bit(b == b'"') + scan::bit(far == mark) == 2 {
         return j;
     }
     if is_raw_plain(b, k) { 64 } else { j }

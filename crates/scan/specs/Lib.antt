@@ -1,3 +1,4 @@
+pub mod Bit
 pub mod Byte
 pub mod Same
 pub mod Run

@@ -1,9 +1,10 @@
-// Reading a byte or nothing, comparing two texts, and counting loops over a set of bytes.
+// Reading a byte or nothing, comparing two texts, tests as numbers, and counting loops over a set of bytes.
 ghost use mathlib.Core.Path.{_≡_};
 ghost use mathlib.Core.Bool.{cond};
 ghost use Prim.Native.Nat.{_+_, _-_, _≤_, min};
 ghost use lib.Dec.{ltb};
 ghost use lib.ListN.{length, drop, getD};
+ghost use Rattle.scan.specs.Bit.{bit};
 ghost use Rattle.scan.specs.Byte.{byteOf};
 ghost use Rattle.scan.specs.Run.{run, outs};
 ghost use Rattle.scan.specs.Same.{same};
@@ -36,6 +37,13 @@ pub fn byte_at(s: &[u8], i: usize) -> u8
     ensures { λ r. ⌜ r ≡ getD (now (s .entry)) i 0 ⌝ }
 {
     if i < s.len() { s[i] } else { 0 }
+}
+
+// 1 for a test that holds, 0 for one that does not.
+pub fn bit(test: bool) -> u8
+    ensures { λ r. ⌜ r ≡ bit test ⌝ }
+{
+    if test { 1 } else { 0 }
 }
 
 // The smaller of two numbers.

@@ -10,11 +10,12 @@ use native.Mathlib.Nat.{zero-add, not-suc-le-zero}
 use lib.ListN.{length, getD, drop, length-drop}
 use lib.Seq.{drop-drop, getD-drop}
 use borrow.Author.Tests.{eqb-true, le-leb, lt-leb, lt-ltb, le-ltb, eq-eqb, ne-eqb}
+use Rattle.scan.specs.Bit.{bit}
 use Rattle.scan.proofs.Cases.{cond-eq, by-lt, clash}
 use Rattle.utf8.specs.Decode.{decode3, decode4, decode, lenOf}
 use Rattle.utf8.specs.Valid.{isUtf8}
 use Rattle.utf8.specs.Cut.{tail}
-use Rattle.utf8.specs.Faults.{bit, leastBehind, mostBehind, wantsTail, never, faultOf, clean}
+use Rattle.utf8.specs.Faults.{leastBehind, mostBehind, wantsTail, never, faultOf, clean}
 use Rattle.utf8.specs.declared.Decoded.the-variants.{Bad}
 use Rattle.utf8.proofs.At.{decode-two, decode-three, decode-four, decode-alone}
 use Rattle.utf8.proofs.Ranges.{

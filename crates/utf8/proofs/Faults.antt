@@ -13,20 +13,16 @@ use lib.Dec.{ltb, leb, eqb}
 use lib.ListN.{length, getD, take, drop, length-drop, drop-of-length-le}
 use lib.Seq.{drop-length, drop-cons, drop-drop, getD-drop}
 use borrow.Author.Tests.{le-leb, lt-leb, lt-ltb, le-ltb, eq-eqb, ne-eqb}
+use Rattle.scan.specs.Bit.{bit}
 use Rattle.scan.proofs.Cases.{cond-eq, by-lt}
 use Rattle.utf8.specs.Valid.{largerOf, isUtf8}
 use Rattle.utf8.specs.Cut.{tail}
-use Rattle.utf8.specs.Faults.{bit, leastBehind, mostBehind, wantsTail, never, faultOf, worstFrom, clean, worstBehind, cleanBehind}
+use Rattle.utf8.specs.Faults.{leastBehind, mostBehind, wantsTail, never, faultOf, worstFrom, clean, worstBehind, cleanBehind}
 use Rattle.utf8.proofs.HighBytes.{larger-left, larger-right}
 use Rattle.utf8.proofs.Valid.{isUtf8-front}
 use Rattle.utf8.proofs.Clean.{never-low, never-high, never-not, clean-utf8}
 
 -- ---- one byte: the code's sums of tests
-
-pub bit-le : {n : ℕ} (t : Bool) → n ≡ bit t → n ≤ 1
-unfolding bit
-bit-le true e = omega arith
-bit-le false e = omega arith
 
 any-bit : (p q r : Bool) → not (eqb (bit p + bit q + bit r) 0) ≡ p || (q || r)
 unfolding bit

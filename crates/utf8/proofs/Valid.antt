@@ -3,21 +3,20 @@
 use mathlib.Core.Path.{_≡_, refl, sym, ap, _∙_, subst}
 use mathlib.Core.Logic.{_↔_}
 use mathlib.Core.Bool.{Bool, true, false}
-use mathlib.Core.List.{List, [], _∷_, _++_, append-assoc}
+use mathlib.Core.List.{List, [], _∷_}
 use Prim.Native.Nat.{ℕ, _<_, zero, suc, _+_, _-_, _≤_}
 use native.Mathlib.Omega.{arith}
 use native.Mathlib.Nat.{not-suc-le-zero}
 use lib.ListN.{drop-of-length-le, getD, length, drop, length-append, length-drop}
-use lib.Seq.{drop-at}
 use Rattle.scan.proofs.Cases.{clash}
-use Rattle.utf8.specs.Utf8.{Scalar, encode, Utf8, Boundary, LastChar}
+use Rattle.utf8.specs.Utf8.{encode, Utf8, Boundary, LastChar}
 use Rattle.utf8.specs.Decode.{decode, lenOf}
 use Rattle.utf8.specs.Valid.{charsWithin, isUtf8}
 use Rattle.utf8.specs.declared.Decoded.{Decoded}
 use Rattle.utf8.specs.declared.Decoded.the-variants.{Char, Bad}
 use Rattle.utf8.proofs.Laws.{encode-length, Found, decode-found}
 use Rattle.utf8.proofs.At.{found-bounds, found-utf8, bad-utf8}
-use Rattle.utf8.proofs.Text.{utf8-front, utf8-nil, utf8-one, utf8-char, utf8-rest, utf8-bad, utf8-append}
+use Rattle.utf8.proofs.Text.{utf8-front, utf8-nil, utf8-one, utf8-char, utf8-rest, utf8-bad}
 
 within-right : (k : ℕ) (t : List ℕ) → length t ≤ k → (charsWithin k t ≡ true) ↔ Utf8 t
 unfolding charsWithin
@@ -81,35 +80,6 @@ module _ (t : List ℕ) (at n : ℕ) (is : n ≡ lenOf (decode (drop at t))) whe
       go : (d : Decoded) → decode (drop at t) ≡ d → n ≡ lenOf d → isUtf8 (drop at t) ≡ false
       go Bad e l = sym (same-answer false _ (λ x. clash x refl, λ u. absurd (bad-utf8 t at h e u)))
       go (Char s m) e l = absurd (omega (arith, found-bounds t at s m e))
-
--- ---- characters inside a text
-
--- inside a UTF-8 text there is a character at each boundary, and a boundary behind it
-pub decode-inside : (t : List ℕ) (n : ℕ) → Boundary t n → n < length t
-    → (s : ℕ) × (k : ℕ) × (decode (drop n t) ≡ Char s k) × Scalar s × (0 < k) × Boundary t (n + k)
-decode-inside t n (p, q, u, v, e, l) h = go (decode q) refl
-  where
-    rest : drop n t ≡ q
-    rest = ap (drop n) (sym e) ∙ drop-at p q n l
-
-    go : (d : Decoded) → decode q ≡ d → (s : ℕ) × (k : ℕ) × (decode (drop n t) ≡ Char s k) × Scalar s × (0 < k) × Boundary t (n + k)
-    go Bad x = absurd (let z = ap length (utf8-bad q v x) in omega (arith, ap length rest, length-drop n t))
-    go (Char s k) x =
-        let g : Found q (Char s k) = subst (λ (d : Decoded). Found q d) x (decode-found q) in (
-          s,
-          k,
-          ap decode rest ∙ x,
-          g .0,
-          (let p = encode-length s in omega (arith, g .2)),
-          (
-            p ++ encode s,
-            drop k q,
-            utf8-append p (encode s) u (utf8-one s (g .0)),
-            utf8-rest s (drop k q) (g .0) (subst (λ (y : List ℕ). Utf8 y) (sym (g .1)) v),
-            append-assoc p (encode s) (drop k q) ∙ ap (λ (y : List ℕ). p ++ y) (g .1) ∙ e,
-            length-append p (encode s) ∙ omega (arith, g .2),
-          ),
-        )
 
 -- a text without its last character is UTF-8
 pub last-cut : (t : List ℕ) (m : ℕ) → LastChar t m → Boundary t (length t - m)

@@ -9,12 +9,9 @@ use mathlib.Core.List.{List, [], _∷_}
 use Prim.Native.Nat.{ℕ, _+_}
 use lib.Dec.{ltb, leb, eqb}
 use lib.ListN.{getD, drop}
+use Rattle.scan.specs.Bit.{bit}
 use Rattle.utf8.specs.Cut.{tail}
 use Rattle.utf8.specs.Valid.{largerOf}
-
--- 1 for a test that holds, 0 for one that does not
-unfoldable pub bit : Bool → ℕ
-bit t = cond t 1 0
 
 -- section 4: behind E0 stands A0 or above, behind F0 stands 90 or above
 unfoldable pub leastBehind : ℕ → ℕ

@@ -8,7 +8,7 @@ ghost use Rattle.utf8.specs.Utf8.{Scalar, encode};
 ghost use Rattle.utf8.specs.Decode.{lengthFrom, decode2, decode3, decode4, decode, lenOf, PairAt};
 ghost use Rattle.utf8.specs.Valid.{isUtf8, ascii, largerOf, highestFrom};
 ghost use Rattle.utf8.specs.Cut.{tail, isBoundary, lastLen};
-ghost use Rattle.utf8.specs.Faults.{bit, leastBehind, mostBehind, faultOf, worstFrom, worstBehind, cleanBehind};
+ghost use Rattle.utf8.specs.Faults.{leastBehind, mostBehind, faultOf, worstFrom, worstBehind, cleanBehind};
 
 // The character at a place of a text, with its length in bytes, or none.
 pub enum Decoded {
@@ -35,7 +35,7 @@ pub fn char_len(first: u8) -> usize
 }
 
 // Whether the byte continues a character: 10xxxxxx.
-pub fn is_tail(b: u8) -> bool
+fn is_tail(b: u8) -> bool
     ensures { λ r. ⌜ r ≡ tail b ⌝ }
 {
     b / 64 == 2
@@ -275,13 +275,6 @@ fn valid_len(text: &[u8], at: usize) -> usize
     four_len(text, at, first, second)
 }
 
-// 1 for a test that holds, 0 for one that does not.
-fn bit(test: bool) -> u8
-    ensures { λ r. ⌜ r ≡ bit test ⌝ }
-{
-    if test { 1 } else { 0 }
-}
-
 // The least byte that may stand behind a byte.
 fn least_behind(a: u8) -> u8
     ensures { λ r. ⌜ r ≡ leastBehind a ⌝ }
@@ -312,10 +305,10 @@ fn most_behind(a: u8) -> u8
 fn fault(c: u8, b: u8, a: u8, x: u8) -> u8
     ensures { λ r. ⌜ r ≡ faultOf c b a x ⌝ }
 {
-    let wanted = bit(0xC0 <= a) + bit(0xE0 <= b) + bit(0xF0 <= c);
-    let odd = bit((wanted != 0) != is_tail(x));
-    let never = bit(x / 2 == 0x60) + bit(0xF4 < x);
-    odd + never + bit(x < least_behind(a)) + bit(most_behind(a) < x)
+    let wanted = scan::bit(0xC0 <= a) + scan::bit(0xE0 <= b) + scan::bit(0xF0 <= c);
+    let odd = scan::bit((wanted != 0) != is_tail(x));
+    let never = scan::bit(x / 2 == 0x60) + scan::bit(0xF4 < x);
+    odd + never + scan::bit(x < least_behind(a)) + scan::bit(most_behind(a) < x)
 }
 
 // The most rules that a byte behind the first three breaks.

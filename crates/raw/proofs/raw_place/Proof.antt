@@ -1,12 +1,9 @@
 -- `raw::raw_place` meets its contract.
 -- Assumes nothing.
 use mathlib.Core.Path.{_≡_}
-use mathlib.Core.Bool.{Bool, cond}
-use Prim.Native.Nat.{ℕ, _≤_}
-use lib.Dec.{eqb}
 use native.Mathlib.Omega.{arith}
 use borrow.Author.Needs.{needs}
-use Rattle.scan.proofs.Cases.{cond-in}
+use Rattle.scan.proofs.Cases.{bit-le}
 use Rattle.raw.specs.Scan.{rawPlain, passes}
 use Rattle.raw.proofs.Passes.{both, not-both}
 use Rattle.raw.proofs.raw_place.Statement.{statement}
@@ -16,26 +13,21 @@ use Rattle.raw.proofs.raw_place.Tie as tie
 plain : (c : tie.Else1) → let a = c .before .before .before .args in passes (a .k) (a .mark) (a .b) (a .far) ≡ rawPlain (a .k) (a .b)
 plain c =
     let a = c .before .before .before .args in
-    not-both (a .k) (a .mark) (a .b) (a .far) λ e. c .if1 .left (omega (arith, c .before .before .one .ensures, c .before .one2 .ensures))
+    not-both (a .k) (a .mark) (a .b) (a .far) λ e. c .if1 .left (omega (arith, c .before .before .bit .ensures, c .before .bit2 .ensures))
 
-small : (t : Bool) → cond t 1 0 ≤ 1
-small t = cond-in (λ (n : ℕ). n ≤ 1) t (λ e. omega arith) (λ e. omega arith)
+bit-requires : tie.Need-bit-requires
+bit-requires c κs = search needs
 
-one-requires : tie.Need-one-requires
-one-requires c κs = search needs
-
-one-requires-2 : tie.Need-one-requires-2
-one-requires-2 c κs = search needs
+bit-requires-2 : tie.Need-bit-requires-2
+bit-requires-2 c κs = search needs
 
 add-if1 : tie.Need-add-if1
-add-if1 c =
-    let a = c .before .before .args in
-    omega (arith, c .before .one .ensures, c .one2 .ensures, small (eqb (a .b) 34), small (eqb (a .far) (a .mark)))
+add-if1 c = omega (arith, bit-le _ (c .before .bit .ensures), bit-le _ (c .bit2 .ensures))
 
 returns : tie.Need-returns
 returns c =
     let a = c .before .before .before .args in
-    rw (both (a .k) (a .mark) (a .b) (a .far) (omega (arith, c .before .before .one .ensures, c .before .one2 .ensures, c .if1 .taken)))
+    rw (both (a .k) (a .mark) (a .b) (a .far) (omega (arith, c .before .before .bit .ensures, c .before .bit2 .ensures, c .if1 .taken)))
 
 is-raw-plain-requires : tie.Need-is-raw-plain-requires
 is-raw-plain-requires c κs = search needs
@@ -50,8 +42,8 @@ pub raw-place-spec : {M : Type 1} → statement M
 raw-place-spec =
     tie.close
     (tie.spec
-    one-requires
-    one-requires-2
+    bit-requires
+    bit-requires-2
     add-if1
     returns
     is-raw-plain-requires

@@ -2,7 +2,8 @@
 -- Assumes nothing.
 use native.Mathlib.Omega.{arith}
 use borrow.Author.Needs.{needs}
-use Rattle.utf8.proofs.Faults.{bit-le, fault-sum}
+use Rattle.scan.proofs.Cases.{bit-le}
+use Rattle.utf8.proofs.Faults.{fault-sum}
 use Rattle.utf8.proofs.fault.Statement.{statement}
 use Rattle.utf8.proofs.fault.Tie as tie
 

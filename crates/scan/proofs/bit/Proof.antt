@@ -1,8 +1,8 @@
--- `utf8::bit` meets its contract.
+-- `scan::bit` meets its contract.
 -- Assumes nothing.
-use Rattle.utf8.specs.Faults.{bit}
-use Rattle.utf8.proofs.bit.Statement.{statement}
-use Rattle.utf8.proofs.bit.Tie as tie
+use Rattle.scan.specs.Bit.{bit}
+use Rattle.scan.proofs.bit.Statement.{statement}
+use Rattle.scan.proofs.bit.Tie as tie
 
 returns : tie.Need-returns
 unfolding bit
