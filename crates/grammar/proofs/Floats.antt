@@ -6,7 +6,7 @@ use mathlib.Core.Bool.{Bool, true, false, cond, not, _&&_}
 use mathlib.Core.List.{List, [], _∷_, _++_, append-assoc, tail-eq-of-cons-eq}
 use Prim.Native.Nat.{ℕ, _+_, _≤_}
 use native.Mathlib.Omega.{arith}
-use lib.Dec.{T, eqb, eqb→eq}
+use lib.Dec.{T, eqb→eq}
 use lib.ListN.{length, drop, length-append}
 use borrow.Author.Tests.{ne-eqb}
 use Rattle.grammar.specs.Notation.{Class, Lang, all, begins, _∪_, one, many, opt, text, Followed, Longest, byte, _·_, _or_}

@@ -1,6 +1,6 @@
 -- Where a text has no control character, the form of a string that is not raw is no longer than the text.
 -- Assumes nothing.
-use mathlib.Core.Path.{_≡_, refl, sym, ap, _∙_}
+use mathlib.Core.Path.{_≡_, refl, ap}
 use mathlib.Core.Bool.{Bool, true, cond}
 use mathlib.Core.List.{List, [], _∷_, _++_, append-nil}
 use Prim.Native.Nat.{ℕ, _+_, _-_, _≤_}
@@ -20,7 +20,7 @@ use Rattle.escape.specs.declared.Allowed.{Allowed}
 use Rattle.escape.specs.declared.Unescaped.{Unescaped}
 use Rattle.body.specs.Pieces.{Content, none, char, escape, continue}
 use Rattle.quoting.specs.Styled.{styledForm, styledForms, itself}
-use Rattle.quoting.proofs.Styles.{is-itself, forms-append, forms-one, forms-ascii, form-short, char-wide}
+use Rattle.quoting.proofs.Styles.{is-itself, forms-append, forms-ascii, form-short, char-wide}
 use Rattle.quoting.proofs.Sums.{part-sum}
 use Rattle.string.specs.String.{stringRead, stringValue}
 use Rattle.string.specs.Parts.{Tiled, as-quoted, as-raw}

@@ -1,7 +1,6 @@
 -- `batch::is_kept` meets its contract.
 -- Assumes nothing.
 use Prim.Native.Nat.{_≤_, _-_}
-use mathlib.Core.Path.{_≡_}
 use lib.ListN.{length}
 use borrow.Author.Needs.{needs}
 use Rattle.batch.proofs.is_kept.Statement.{statement}

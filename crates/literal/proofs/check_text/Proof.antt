@@ -1,6 +1,6 @@
 -- `literal::check_text` meets its contract.
 -- Assumes nothing.
-use mathlib.Core.Path.{_≡_, sym, ap, _∙_}
+use mathlib.Core.Path.{sym, _∙_}
 use borrow.Author.Tests.{le-leb, lt-leb}
 use Rattle.literal.specs.Checks.{textFault}
 use borrow.Author.Needs.{needs}

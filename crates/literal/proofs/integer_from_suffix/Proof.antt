@@ -1,6 +1,6 @@
 -- `literal::integer_from_suffix` meets its contract.
 -- Assumes nothing.
-use mathlib.Core.Path.{_≡_, refl}
+use mathlib.Core.Path.{refl}
 use Rattle.literal.specs.Suffixes.{integerFromSuffix}
 use borrow.Author.Needs.{needs}
 use Rattle.literal.proofs.integer_from_suffix.Statement.{statement}

@@ -1,6 +1,5 @@
 -- `literal::starts_float` meets its contract.
 -- Assumes nothing.
-use mathlib.Core.Path.{_≡_}
 use borrow.Author.Tests.{eq-eqb, ne-eqb}
 use Rattle.literal.specs.Readings.{startsFloat}
 use borrow.Author.Needs.{needs}

@@ -1,6 +1,6 @@
 -- `types::FloatType::from_suffix` meets its contract.
 -- Assumes nothing.
-use mathlib.Core.Path.{_≡_, sym, _∙_}
+use mathlib.Core.Path.{sym, _∙_}
 use Rattle.types.specs.Types.{floatNamed}
 use borrow.Author.Needs.{needs}
 use Rattle.types.proofs.FloatType.from_suffix.Statement.{statement}

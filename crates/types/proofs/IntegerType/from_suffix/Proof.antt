@@ -1,7 +1,6 @@
 -- `types::IntegerType::from_suffix` meets its contract.
 -- Assumes nothing.
-use mathlib.Core.Path.{_≡_, sym, ap, _∙_}
-use Rattle.types.specs.Types.{integerNamed, orElse}
+use Rattle.types.specs.Types.{integerNamed}
 use borrow.Author.Needs.{needs}
 use Rattle.types.proofs.IntegerType.from_suffix.Statement.{statement}
 use Rattle.types.proofs.IntegerType.from_suffix.Tie as tie

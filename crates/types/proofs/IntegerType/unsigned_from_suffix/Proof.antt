@@ -1,6 +1,6 @@
 -- `types::IntegerType::unsigned_from_suffix` meets its contract.
 -- Assumes nothing.
-use mathlib.Core.Path.{_≡_, sym, _∙_}
+use mathlib.Core.Path.{sym, _∙_}
 use Rattle.types.specs.Types.{unsignedNamed}
 use borrow.Author.Needs.{needs}
 use Rattle.types.proofs.IntegerType.unsigned_from_suffix.Statement.{statement}
