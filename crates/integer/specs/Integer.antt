@@ -27,7 +27,7 @@ baseAt s =
     (cond (eqb (getD s 1 0) 120) 16 10)))
     10
 
--- whether a text starts with the prefix of a base that has one
+-- "Prefixes are `0b`, `0o`, `0x`, lower case only": whether a text starts with that of a base that has one (`baseAt` says which)
 unfoldable pub hasPrefix : IntegerBase → List ℕ → Bool
 hasPrefix base s = eqb (getD s 0 0) (getD (prefixBytes base) 0 0) && eqb (getD s 1 0) (getD (prefixBytes base) 1 0)
 
