@@ -107,7 +107,7 @@ fn put_char(out: &mut [u8], lit: CharLit) -> usize
     ensures { λ r. ⌜ Wrote (bareForm (worth.char (lit .value)) []) r (now (out .entry)) (now (out .exit)) ⌝ }
 {
     let start = buffer::put_one(out, b'\'');
-    let at = start + quoting::put_char(&mut out[start..], lit.value, char_style());
+    let at = start + body_form::put_char(&mut out[start..], lit.value, char_style());
     at + buffer::put_one(&mut out[at..], b'\'')
 }
 
@@ -130,7 +130,7 @@ fn bare_len(text: &[u8], found: Reading) -> Bare
         Reading::Bool(_) => Bare::Len(text.len()),
         Reading::Integer(lit) => integer_len(text, lit),
         Reading::Float(lit) => float_len(text, lit),
-        Reading::Char(lit) => Bare::Len(2 + quoting::char_len(lit.value, char_style())),
+        Reading::Char(lit) => Bare::Len(2 + body_form::char_len(lit.value, char_style())),
         Reading::String(lit) => Bare::Len(string_form::form_len(text, lit, Kind::Text)),
         Reading::Byte(lit) => Bare::Len(3 + quoting::form_len(lit.value, byte_style())),
         Reading::ByteString(lit) => Bare::Len(string_form::form_len(text, lit, Kind::Bytes)),

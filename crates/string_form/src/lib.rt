@@ -70,18 +70,18 @@ fn value_len(text: &[u8], lit: StringLit, k: Kind) -> usize
         Hashes::NotRaw => {
             let end = from + n;
             if end + 1 == lit.start_suffix {
-                return quoting::forms_len(&text[from..end], style_of(k));
+                return body_form::forms_len(&text[from..end], style_of(k));
             }
             // dropped line breaks only
             if n == 0 {
                 return 0;
             }
-            quoting::body_len(&text[from..], k.allowed(), style_of(k))
+            body_form::body_len(&text[from..], k.allowed(), style_of(k))
         }
         Hashes::Raw(h) => {
             let start = from + h as usize + 1;
             let end = start + n;
-            quoting::forms_len(&text[start..end], style_of(k))
+            body_form::forms_len(&text[start..end], style_of(k))
         }
     }
 }
@@ -97,18 +97,18 @@ fn put_value(out: &mut [u8], text: &[u8], lit: StringLit, k: Kind) -> usize
         Hashes::NotRaw => {
             let end = from + n;
             if end + 1 == lit.start_suffix {
-                return quoting::put_forms(out, &text[from..end], style_of(k));
+                return body_form::put_forms(out, &text[from..end], style_of(k));
             }
             // dropped line breaks only
             if n == 0 {
                 return 0;
             }
-            quoting::put_body(out, &text[from..], k.allowed(), style_of(k))
+            body_form::put_body(out, &text[from..], k.allowed(), style_of(k))
         }
         Hashes::Raw(h) => {
             let start = from + h as usize + 1;
             let end = start + n;
-            quoting::put_forms(out, &text[start..end], style_of(k))
+            body_form::put_forms(out, &text[start..end], style_of(k))
         }
     }
 }

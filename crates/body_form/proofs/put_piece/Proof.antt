@@ -1,0 +1,182 @@
+-- `body_form::put_piece` meets its contract.
+-- Assumes nothing.
+use borrow.Author.Needs.{needs}
+use mathlib.Core.Path.{_≡_, sym, ap, _∙_}
+use mathlib.Core.List.{List, _∷_, []}
+use Prim.Native.Nat.{ℕ, _+_, _<_}
+use native.Mathlib.Omega.{arith}
+use lib.ListN.{length, drop}
+use Rattle.buffer.proofs.Laws.{nothing}
+use Rattle.escape.specs.Code.{codedLen}
+use Rattle.body.specs.Step.{backslashOf}
+use Rattle.body.specs.Stride.{valueIn}
+use Rattle.body.proofs.Strides as strides
+use Rattle.quoting.specs.Styled.{styledForm, styledForms}
+use Rattle.quoting.proofs.Styles as styles
+use Rattle.body_form.proofs.put_piece.Statement.{statement}
+use Rattle.body_form.proofs.put_piece.Tie as tie
+
+-- the call, at each place
+abbrev at-letter : tie.After-letter-at → tie.Start
+at-letter b = b .before .before .before
+
+abbrev at-break : tie.After-break-end → tie.Start
+at-break b = at-letter (b .before .before)
+
+abbrev at-x : tie.After-x-at → tie.Start
+at-x b = at-break (b .before .before)
+
+abbrev at-code : tie.After-code-at → tie.Start
+at-code b = at-x (b .before .before)
+
+abbrev forms : tie.Start → List ℕ → List ℕ
+forms e v = styledForms (e .args .style .wide) (e .args .style .quote) v
+
+inside : (e : tie.Start) → e .args .at < length (e .args .s .now)
+inside e = strides.at-in (e .args .k) (e .args .s .now) (e .args .at) (e .pre .0)
+
+-- the arms
+letter : (c : tie.Then1) →
+    let a = at-letter (c .before) .args in
+    strides.Arm (a .k) (a .s .now) (a .at) (a .at + 2) (c .before .letter-at .result ∷ [])
+letter c =
+    let e = at-letter (c .before) in
+    strides.letter-arm _ _ _ (e .pre .0) _ (e .pre .1 .1) _ (c .before .letter-at .ensures) (c .if1 .taken)
+
+letter-form : (c : tie.Then1) →
+    let e = at-letter (c .before) in
+    let a = e .args in
+    styledForm (a .style .wide) (a .style .quote) (c .before .letter-at .result) ≡ forms e (valueIn (backslashOf (a .k) (drop (a .at) (a .s .now))))
+letter-form c =
+    let e = at-letter (c .before) in
+    sym (styles.forms-one _ _ _) ∙ ap (forms e) (letter c .value)
+
+break : (c : tie.Then2) →
+    let a = at-break (c .before) .args in
+    strides.Arm (a .k) (a .s .now) (a .at) (c .before .break-end .result) []
+break c = strides.break-arm _ _ _ (at-break (c .before) .pre .0) _ (c .before .break-end .ensures) (c .if2 .taken)
+
+by-x : (c : tie.Then3) →
+    let a = at-x (c .before) .args in
+    strides.Coded (a .k) (a .s .now) (a .at) (c .before .x-at .result) (a .at + 4)
+by-x c =
+    let e = at-x (c .before) in
+    strides.x-arm _ _ _ (e .pre .0) _ (e .pre .1 .1) _ (c .before .x-at .ensures) (c .if3 .taken) .0
+
+none : (c : tie.Then4) →
+    let a = at-code (c .before) .args in
+    strides.Arm (a .k) (a .s .now) (a .at) 0 []
+none c = strides.none-arm _ _ _ (at-code (c .before) .pre .0) (sym (c .before .code-at .ensures) ∙ c .if4 .taken)
+
+coded : (c : tie.Else4) →
+    let a = at-code (c .before) .args in
+    strides.Coded (a .k) (a .s .now) (a .at) (c .before .code-at .result) (a .at + codedLen (c .before .code-at .result))
+coded c = strides.code-arm _ _ _ (at-code (c .before) .pre .0) _ (c .before .code-at .ensures) (c .if4 .left)
+
+letter-at-requires : tie.Need-letter-at-requires
+letter-at-requires c κs = let e = c .before .before in (inside e, omega (arith, e .pre .1 .1))
+
+add-t13 : tie.Need-add-t13
+add-t13 c = let e = at-letter (c .before) in omega (arith, inside e, e .pre .1 .0)
+
+put-form-requires : tie.Need-put-form-requires
+put-form-requires c κs = let t = c .before in omega (arith, ap length (letter-form t), at-letter (t .before) .pre .2)
+
+same-length : tie.Need-same-length
+same-length c = search needs
+
+returns : tie.Need-returns
+returns c =
+    let p = c .before .before in
+    let t = p .before .before in
+    (letter t .next, strides.written-as (letter-form t) (p .put-form .ensures))
+
+break-end-requires : tie.Need-break-end-requires
+break-end-requires c κs = inside (at-letter (c .before))
+
+returns-2 : tie.Need-returns-2
+returns-2 c = let a = break c in (a .next, strides.written-as (ap (forms (at-break (c .before))) (a .value)) (nothing _))
+
+x-at-requires : tie.Need-x-at-requires
+x-at-requires c κs = let e = at-break (c .before) in (inside e, omega (arith, e .pre .1 .1))
+
+add-t17 : tie.Need-add-t17
+add-t17 c = let e = at-x (c .before) in omega (arith, inside e, e .pre .1 .0)
+
+code-value-requires : tie.Need-code-value-requires
+code-value-requires c κs = search needs
+
+put-value-requires : tie.Need-put-value-requires
+put-value-requires c κs =
+    let t = c .before .before in
+    let e = at-x (t .before) in
+    strides.coded-fits (by-x t) (c .code-value .ensures) (λ (v : List ℕ). length (forms e v)) _ (e .pre .2)
+
+same-length-2 : tie.Need-same-length-2
+same-length-2 c = search needs
+
+returns-3 : tie.Need-returns-3
+returns-3 c =
+    let p = c .before .before in
+    let t = p .before .before .before in
+    let h = by-x t in
+    (h .arm .next, strides.written-as (ap (forms (at-x (t .before))) (strides.coded-value h (p .before .code-value .ensures))) (p .put-value .ensures))
+
+code-at-requires : tie.Need-code-at-requires
+code-at-requires c κs = let e = at-x (c .before) in (omega (arith, inside e), e .pre .1)
+
+returns-4 : tie.Need-returns-4
+returns-4 c = let a = none c in (a .next, strides.written-as (ap (forms (at-code (c .before))) (a .value)) (nothing _))
+
+code-value-requires-2 : tie.Need-code-value-requires-2
+code-value-requires-2 c κs = search needs
+
+put-value-requires-2 : tie.Need-put-value-requires-2
+put-value-requires-2 c κs =
+    let t = c .before .before in
+    let e = at-code (t .before) in
+    strides.coded-fits (coded t) (c .code-value2 .ensures) (λ (v : List ℕ). length (forms e v)) _ (e .pre .2)
+
+code-len-requires : tie.Need-code-len-requires
+code-len-requires c κs = search needs
+
+add-t26 : tie.Need-add-t26
+add-t26 c =
+    let t = c .before .before .before .before .before .before in
+    omega (arith, coded t .within, c .code-len .ensures, at-code (t .before) .pre .1 .0)
+
+same-length-3 : tie.Need-same-length-3
+same-length-3 c = search needs
+
+returns-5 : tie.Need-returns-5
+returns-5 c =
+    let p = c .before .before .before in
+    let t = p .before .before .before in
+    let h = coded t in
+    (omega (arith, h .arm .next, c .code-len .ensures), strides.written-as (ap (forms (at-code (t .before))) (strides.coded-value h (p .before .code-value2 .ensures))) (p .put-value2 .ensures))
+
+pub put-piece-spec : {M : Type 1} → statement M
+put-piece-spec =
+    tie.close
+    (tie.spec
+    letter-at-requires
+    add-t13
+    put-form-requires
+    same-length
+    returns
+    break-end-requires
+    returns-2
+    x-at-requires
+    add-t17
+    code-value-requires
+    put-value-requires
+    same-length-2
+    returns-3
+    code-at-requires
+    returns-4
+    code-value-requires-2
+    put-value-requires-2
+    code-len-requires
+    add-t26
+    same-length-3
+    returns-5)
