@@ -15,7 +15,7 @@ use Rattle.grammar.specs.Meaning as worth
 use Rattle.form.specs.Form.{formOf, faultOf}
 use Rattle.form.specs.Reduced.{reduce}
 use Rattle.literal.specs.Readings.{readAt}
-use Rattle.settle.specs.Worths.{worthOf}
+use Rattle.bare_form.specs.Worths.{worthOf}
 use Rattle.settle.specs.Settled.{Settle, formed, withheld, measured, measureOf, measureAt, fitted, settleAt, formBy, formAt, bufferAt}
 use Rattle.integer.specs.Value.{Valued}
 use Rattle.desk.specs.Code.{readingNumbers, valueCode, valueAfter, decodeCode, codeOf}

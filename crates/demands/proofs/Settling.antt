@@ -16,7 +16,7 @@ use Rattle.form.specs.Form.{formOf, faultOf}
 use Rattle.form.specs.Reduced.{reduce}
 use Rattle.form.proofs.Reduce.{too-far}
 use Rattle.literal.specs.Readings.{readAt}
-use Rattle.settle.specs.Worths.{worthOf}
+use Rattle.bare_form.specs.Worths.{worthOf}
 use Rattle.settle.specs.Settled.{Settle, formed, withheld, measured, measureOf, measureAt, fitted, settleAt, formAt, bufferAt}
 use Rattle.demands.specs.Demand3.{Accepts, Given, TooLarge, PowerTooFar, TooLong, TooSmall}
 use Rattle.demands.proofs.Reference.{demand-2-reference}

@@ -31,7 +31,7 @@ use Rattle.grammar.specs.Values.{numberIn}
 use Rattle.grammar.specs.Meaning.{Worth, kindOf, Means}
 use Rattle.grammar.specs.Meaning as worth
 use Rattle.scaling.specs.Scaled.{floatAt}
-use Rattle.settle.specs.Worths.{worthOf}
+use Rattle.bare_form.specs.Worths.{worthOf}
 use Rattle.demands.specs.Demand1.{Readable}
 use Rattle.demands.specs.Demand2.{part, Gives, GivesInteger, GivesBytes}
 use Rattle.demands.proofs.DecodeCall.{decode-answers}

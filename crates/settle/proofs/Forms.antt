@@ -18,15 +18,12 @@ use Rattle.scan.proofs.Cases.{clash}
 use Rattle.buffer.specs.Buffer.{over}
 use Rattle.grammar.specs.Meaning.{Worth}
 use Rattle.grammar.specs.Meaning as worth
-use Rattle.form.specs.Form.{bareForm, formOf, faultOf, integerForm, reducedForm}
-use Rattle.form.specs.Reduced.{reduce}
-use Rattle.grammar.specs.Decimal.{Decimal}
+use Rattle.form.specs.Form.{bareForm, formOf, faultOf, integerForm}
 use Rattle.integer.specs.Value.{within, number}
 use Rattle.integer.specs.declared.Within.the-variants.{Number, Over}
-use Rattle.utf8.specs.Utf8.{Scalar, encode}
-use Rattle.quoting.specs.Styled.{styledForm, styledForms}
-use Rattle.quoting.proofs.Styles.{char-style, byte-style, forms-short}
-use Rattle.scaling.specs.Scaled.{part, near, Length, known, too-far}
+use Rattle.quoting.specs.Styled.{styledForms}
+use Rattle.quoting.proofs.Styles.{forms-short}
+use Rattle.scaling.specs.Scaled.{part}
 use Rattle.string.specs.String.{stringRead, stringValue}
 use Rattle.string.specs.declared.Kind.{Kind}
 use Rattle.string.specs.declared.Kind.the-variants.{Text, Bytes, C}
@@ -36,14 +33,13 @@ use Rattle.string_form.specs.Shown.{allShown}
 use Rattle.string_form.proofs.Bare.{read-length, opening-short}
 use Rattle.string_form.proofs.Short.{string-short}
 use Rattle.literal.specs.Readings.{readAt}
-use Rattle.settle.proofs.Readings.{short, utf8, start, stringIn, string-read}
-use Rattle.settle.specs.Worths.{worthOf}
-use Rattle.settle.specs.Settled.{Settle, formed, withheld, measured, measureOf, measureAt, settleAt, formBy, formAt, bufferAt, BareForm, len, bad, bareLen, bareBy, bareFormBy, kindIn, suffixIn, Roomy, Fits, boundFits, textFits, surelyFits}
+use Rattle.bare_form.proofs.Readings.{short, utf8, start, stringIn, string-read}
+use Rattle.bare_form.specs.Worths.{worthOf}
+use Rattle.bare_form.proofs.Lengths.{no-len, plain-bare, is-within, is-over}
+use Rattle.bare_form.specs.Bare.{len, bad, bareLen, bareBy, bareFormBy, kindIn, suffixIn, Roomy}
+use Rattle.settle.specs.Settled.{Settle, formed, withheld, measured, measureOf, measureAt, settleAt, formBy, formAt, bufferAt, Fits, boundFits, textFits, surelyFits}
 
--- a length is no refusal, and a form none
-pub no-len {ℓ} : {A : Type ℓ} {n m : ℕ} {p : Place} → bad m p ≡ len n → A
-no-len e = let z : _≡_ {A = ℕ} 0 1 = cc in absurd (omega arith)
-
+-- a form is no refusal
 pub no-form {ℓ} : {A : Type ℓ} {k n m : ℕ} {p : Place} → withheld m p ≡ formed k n → A
 no-form e = let z : _≡_ {A = ℕ} 0 1 = cc in absurd (omega arith)
 
@@ -168,18 +164,6 @@ module _ (s buf : List ℕ) (o : Outcome) (is : o ≡ readAt 0 s) where
   unfolding settleAt bufferAt formAt
   settle-written {k} {n} e h = rw (measure-at e, le-leb n (length buf) h, ← is) (refl, refl)
 
--- ---- kinds that always have a form
-
-pub plain-bare : (w : Worth) (x : List ℕ) → faultOf w ≡ 0 → len (length (bareForm w x)) ≡ bareLen w x
-unfolding bareLen
-plain-bare w x e = rw e
-
-pub char-length : (v : ℕ) (x : List ℕ) → Scalar v → 2 + length (styledForms true 39 (encode v)) ≡ length (bareForm (worth.char v) x)
-char-length v x sc = rw (char-style 39 v sc, length-append) (omega arith)
-
-pub byte-length : (b : ℕ) (x : List ℕ) → 3 + length (styledForm false 39 b) ≡ length (bareForm (worth.byte b) x)
-byte-length b x = rw (byte-style 39 b, length-append) (omega arith)
-
 -- ---- strings, whose forms have at most four bytes for each of the value's, quotes and a letter
 
 fits-sum : (n m have : ℕ) → boundFits n m have ≡ true → (4 * n + 3 + m ≤ 65536) × (4 * n + 3 + m ≤ have)
@@ -253,7 +237,7 @@ module _ (s : List ℕ) (have : ℕ) where
   surely-ready (reading.Char lit) is e = clash e refl
   surely-ready (reading.Byte lit) is e = clash e refl
 
--- ---- integers and floats, which may have none
+-- ---- integers, which may have none
 
 -- the number that is at most the largest
 same-number : (m : ℕ) {n : ℕ} → Number n ≡ within 18446744073709551615 m → n ≡ m
@@ -262,26 +246,6 @@ same-number m {n} = by-test (leb m 18446744073709551615)
     by-test : (t : Bool) → Number n ≡ cond t (Number m) Over → n ≡ m
     by-test true e = cc
     by-test false e = let z : _≡_ {A = ℕ} 0 1 = cc in absurd (omega arith)
-
-module _ (m : ℕ) (x : List ℕ) where
-  pub is-within : {n : ℕ} → Number n ≡ within 18446744073709551615 m → len (length (bareForm (worth.integer n) x)) ≡ bareLen (worth.integer m) x
-  unfolding bareLen
-  is-within {n} = by-test (leb m 18446744073709551615)
-    where
-      by-test : (t : Bool) → Number n ≡ cond t (Number m) Over
-          → len (length (integerForm n x)) ≡ cond (eqb (cond t 0 45) 0) (len (length (integerForm m x))) (bad (cond t 0 45) none)
-      by-test true e = let z : n ≡ m = cc in rw z
-      by-test false e = let z : _≡_ {A = ℕ} 0 1 = cc in absurd (omega arith)
-
-  -- or above it
-  pub is-over : Over ≡ within 18446744073709551615 m → bad 45 none ≡ bareLen (worth.integer m) x
-  unfolding bareLen
-  is-over = by-test (leb m 18446744073709551615)
-    where
-      by-test : (t : Bool) → Over ≡ cond t (Number m) Over
-          → bad 45 none ≡ cond (eqb (cond t 0 45) 0) (len (length (integerForm m x))) (bad (cond t 0 45) none)
-      by-test true e = let z : _≡_ {A = ℕ} 0 1 = cc in absurd (omega arith)
-      by-test false e = refl
 
 module _ (s : List ℕ) (lit : IntegerLit) where
   -- the number that an integer's digits mark
@@ -311,27 +275,3 @@ module _ (s : List ℕ) (lit : IntegerLit) where
         → formed 2 (length (integerForm n (drop (lit .«end_main_part») s)) + (length s - lit .«end_main_part»))
         ≡ measureOf s (outcomeOf (reading.Integer lit))
     integer-formed h = sym (measure-formed s (outcomeOf (reading.Integer lit)) integer-bare h)
-
--- the length of a float's form, as scaling answers it
-abbrev pub bareIn : Length → BareForm
-bareIn (known n) = len n
-bareIn too-far = bad 46 none
-
-module _ (d : Decimal) (x : List ℕ) where
-  pub float-bare : bareIn (cond (near d) (known (length (reducedForm (reduce d)))) too-far) ≡ bareLen (worth.float d) x
-  unfolding bareLen
-  float-bare = by-test (near d)
-    where
-      by-test : (t : Bool) → bareIn (cond t (known (length (reducedForm (reduce d)))) too-far)
-          ≡ cond (eqb (cond t 0 46) 0) (len (length (reducedForm (reduce d)))) (bad (cond t 0 46) none)
-      by-test true = refl
-      by-test false = refl
-
-  -- where there is a form, the power is near
-  pub float-near : {n : ℕ} → bareLen (worth.float d) x ≡ len n → near d ≡ true
-  unfolding bareLen
-  float-near {n} = by-test (near d)
-    where
-      by-test : (t : Bool) → cond (eqb (cond t 0 46) 0) (len (length (reducedForm (reduce d)))) (bad (cond t 0 46) none) ≡ len n → t ≡ true
-      by-test true e = refl
-      by-test false e = no-len e

@@ -11,12 +11,11 @@ use Rattle.err.specs.Numbers.{numberOf}
 use Rattle.err.specs.Reading.{placeOf}
 use Rattle.buffer.specs.Buffer.{over}
 use Rattle.grammar.specs.Meaning.{Worth}
-use Rattle.form.specs.Form.{bareForm, formOf, faultOf}
+use Rattle.form.specs.Form.{formOf, faultOf}
 use Rattle.string_form.specs.Shown.{allShown}
 use Rattle.literal.specs.Readings.{readAt}
-use Rattle.settle.specs.Worths.{worthOf}
-use Rattle.settle.specs.declared.Bare.{Bare}
-use Rattle.settle.specs.declared.Bare.the-variants as bare
+use Rattle.bare_form.specs.Worths.{worthOf}
+use Rattle.bare_form.specs.Bare.{len, bareBy, bareFormBy}
 use Rattle.settle.specs.declared.Settled.{Settled}
 use Rattle.settle.specs.declared.Settled.the-variants as settled
 
@@ -73,41 +72,7 @@ bufferBy (withheld n p) form buf = buf
 unfoldable pub bufferAt : List ℕ → List ℕ → List ℕ
 bufferAt s buf = bufferBy (settleAt s (length buf)) (formAt s) buf
 
--- ---- a form without its suffix
-
-pub data BareForm : Type 0 where
-  len : ℕ → BareForm
-  bad : ℕ → Place → BareForm
-
-abbrev pub bareOf : Bare → BareForm
-bareOf (bare.Len n) = len n
-bareOf (bare.Refused k p) = bad (numberOf k) (placeOf p)
-
-unfoldable pub bareLen : Worth → List ℕ → BareForm
-bareLen w x = cond (eqb (faultOf w) 0) (len (length (bareForm w x))) (bad (faultOf w) none)
-
-abbrev pub bareBy : List ℕ → Outcome → BareForm
-bareBy s (refused n p) = bad n p
-bareBy s (accepted k e vs) = bareLen (worthOf k s vs) (drop e s)
-
-abbrev pub bareFormBy : List ℕ → Outcome → List ℕ
-bareFormBy s (refused n p) = []
-bareFormBy s (accepted k e vs) = bareForm (worthOf k s vs) (drop e s)
-
--- kind and start of suffix of an accepted reading
-abbrev pub kindIn : Outcome → ℕ
-kindIn (refused n p) = 0
-kindIn (accepted k e vs) = k
-
-abbrev pub suffixIn : Outcome → ℕ
-suffixIn (refused n p) = 0
-suffixIn (accepted k e vs) = e
-
--- a form is there, and a buffer of `have` bytes has room for it: for the part before the suffix, and for the whole
-pub record Roomy (s : List ℕ) (o : Outcome) (have : ℕ) : Type 0 where
-  pub form : bareBy s o ≡ len (length (bareFormBy s o))
-  pub room : length (bareFormBy s o) ≤ have
-
+-- a form is there, and a buffer of `have` bytes has room for the whole
 pub record Fits (s : List ℕ) (o : Outcome) (have : ℕ) : Type 0 where
   pub form : bareBy s o ≡ len (length (bareFormBy s o))
   pub room : length (formBy s o) ≤ have

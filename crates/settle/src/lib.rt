@@ -1,8 +1,6 @@
 // Settled forms: the measure of a text's form, and the form written into a lent buffer. Any bytes may be handed in.
 // The last clause of each public contract says that the text at exit is what it was at entry.
-use err::ByteLit;
-use err::CharLit;
-use err::FloatLit;
+use bare_form::Bare;
 use err::Hashes;
 use err::IntegerLit;
 use err::ParseErrorKind;
@@ -10,76 +8,22 @@ use err::Reading;
 use err::Span;
 use err::StringLit;
 use integer::Within;
-use quoting::Style;
-use scaling::FormLen;
-use string::Kind;
 ghost use mathlib.Core.Path.{_≡_};
-ghost use mathlib.Core.Bool.{true, false};
-ghost use mathlib.Core.List.{[]};
 ghost use Prim.Native.Nat.{_≤_};
 ghost use lib.ListN.{length};
-ghost use Rattle.err.specs.Reading.{baseOf, outcomeOf};
+ghost use Rattle.err.specs.Reading.{outcomeOf};
 ghost use Rattle.err.specs.declared.Reading.the-variants as reading;
 ghost use Rattle.buffer.specs.Buffer.{Wrote};
-ghost use Rattle.utf8.specs.Utf8.{Scalar};
 ghost use Rattle.grammar.specs.Meaning as worth;
-ghost use Rattle.form.specs.Form.{bareForm, formOf};
-ghost use Rattle.integer.specs.Value.{within, number};
-ghost use Rattle.scaling.specs.Scaled.{part};
+ghost use Rattle.form.specs.Form.{formOf};
 ghost use Rattle.literal.specs.Readings.{readAt};
-ghost use Rattle.settle.specs.Settled.{settledOf, measureOf, measureAt, settleAt, bufferAt, bareOf, bareBy, bareFormBy, formBy, kindIn, suffixIn, Roomy, Fits, boundFits, surelyFits};
+ghost use Rattle.bare_form.specs.Bare.{kindIn, suffixIn};
+ghost use Rattle.settle.specs.Settled.{settledOf, measureOf, measureAt, settleAt, bufferAt, formBy, Fits, boundFits, surelyFits};
 
 // A form's kind and length, or why there is none.
 pub enum Settled {
     Formed(u8, usize),
     Refused(ParseErrorKind, Span),
-}
-
-// How long a form is without its suffix, or why there is none.
-pub enum Bare {
-    Len(usize),
-    Refused(ParseErrorKind, Span),
-}
-
-fn char_style() -> Style
-    ensures { λ r. ⌜ (r .quote ≡ 39) × (r .wide ≡ true) ⌝ }
-{
-    Style {
-        quote: b'\'',
-        wide: true,
-    }
-}
-
-fn byte_style() -> Style
-    ensures { λ r. ⌜ (r .quote ≡ 39) × (r .wide ≡ false) ⌝ }
-{
-    Style {
-        quote: b'\'',
-        wide: false,
-    }
-}
-
-// An integer's number, where it is at most 2^64 − 1.
-fn number_of(text: &[u8], lit: IntegerLit) -> Within
-    requires { ⌜ outcomeOf (reading.Integer lit) ≡ readAt 0 (now text) ⌝ }
-    ensures { λ r. ⌜ r ≡ within 18446744073709551615 (number (baseOf (lit .base)) (part (lit .«start_main_part») (lit .«end_main_part») (now (text .entry)))) ⌝ }
-{
-    let start = lit.start_main_part;
-    let end = lit.end_main_part;
-    let base = lit.base;
-    integer::number_within(&text[start..end], base, 18446744073709551615)
-}
-
-fn integer_len(text: &[u8], lit: IntegerLit) -> Bare
-    requires { ⌜ outcomeOf (reading.Integer lit) ≡ readAt 0 (now text) ⌝ }
-    ensures { λ r. ⌜ bareOf r ≡ bareBy (now (text .entry)) (outcomeOf (reading.Integer lit)) ⌝ }
-{
-    let found = number_of(text, lit);
-    let Within::Number(n) = found else {
-        return Bare::Refused(ParseErrorKind::NoValue, Span::Nowhere);
-    };
-    let end = lit.end_main_part;
-    Bare::Len(integer_form::form_len(n, &text[end..]))
 }
 
 // An integer's form, and the suffix behind it.
@@ -89,71 +33,6 @@ fn put_number(out: &mut [u8], n: u64, suffix: &[u8]) -> usize
 {
     let at = integer_form::put_form(out, n, suffix);
     at + buffer::put_bytes(&mut out[at..], suffix)
-}
-
-fn float_len(text: &[u8], lit: FloatLit) -> Bare
-    requires { ⌜ outcomeOf (reading.Float lit) ≡ readAt 0 (now text) ⌝ }
-    ensures { λ r. ⌜ bareOf r ≡ bareBy (now (text .entry)) (outcomeOf (reading.Float lit)) ⌝ }
-{
-    let found = scaling::float_len(text, lit);
-    let FormLen::Known(n) = found else {
-        return Bare::Refused(ParseErrorKind::PowerTooFar, Span::Nowhere);
-    };
-    Bare::Len(n)
-}
-
-fn put_char(out: &mut [u8], lit: CharLit) -> usize
-    requires { ⌜ Scalar (lit .value) × (length (bareForm (worth.char (lit .value)) []) ≤ length (now out)) ⌝ }
-    ensures { λ r. ⌜ Wrote (bareForm (worth.char (lit .value)) []) r (now (out .entry)) (now (out .exit)) ⌝ }
-{
-    let start = buffer::put_one(out, b'\'');
-    let at = start + body_form::put_char(&mut out[start..], lit.value, char_style());
-    at + buffer::put_one(&mut out[at..], b'\'')
-}
-
-fn put_byte(out: &mut [u8], lit: ByteLit) -> usize
-    requires { ⌜ length (bareForm (worth.byte (lit .value)) []) ≤ length (now out) ⌝ }
-    ensures { λ r. ⌜ Wrote (bareForm (worth.byte (lit .value)) []) r (now (out .entry)) (now (out .exit)) ⌝ }
-{
-    let start = buffer::put_two(out, b'b', b'\'');
-    let at = start + quoting::put_form(&mut out[start..], lit.value, byte_style());
-    at + buffer::put_one(&mut out[at..], b'\'')
-}
-
-// How long the form of a reading is without its suffix.
-fn bare_len(text: &[u8], found: Reading) -> Bare
-    requires { ⌜ outcomeOf found ≡ readAt 0 (now text) ⌝ }
-    ensures { λ r. ⌜ bareOf r ≡ bareBy (now (text .entry)) (outcomeOf found) ⌝ }
-{
-    match found {
-        Reading::Refused(kind, span) => Bare::Refused(kind, span),
-        Reading::Bool(_) => Bare::Len(text.len()),
-        Reading::Integer(lit) => integer_len(text, lit),
-        Reading::Float(lit) => float_len(text, lit),
-        Reading::Char(lit) => Bare::Len(2 + body_form::char_len(lit.value, char_style())),
-        Reading::String(lit) => Bare::Len(string_form::form_len(text, lit, Kind::Text)),
-        Reading::Byte(lit) => Bare::Len(3 + quoting::form_len(lit.value, byte_style())),
-        Reading::ByteString(lit) => Bare::Len(string_form::form_len(text, lit, Kind::Bytes)),
-        Reading::CString(lit) => Bare::Len(string_form::form_len(text, lit, Kind::C)),
-    }
-}
-
-// The form of a reading that is no integer, without its suffix. A refused reading cannot arise: it has no form.
-fn put_bare(out: &mut [u8], text: &[u8], found: Reading) -> usize
-    requires { ⌜ (outcomeOf found ≡ readAt 0 (now text)) × Roomy (now text) (outcomeOf found) (length (now out)) × (kindIn (outcomeOf found) ≡ 2 → ⊥) ⌝ }
-    ensures { λ r. ⌜ Wrote (bareFormBy (now (text .entry)) (outcomeOf found)) r (now (out .entry)) (now (out .exit)) ⌝ }
-{
-    match found {
-        Reading::Refused(_, _) => 0,
-        Reading::Bool(_) => buffer::put_bytes(out, text),
-        Reading::Integer(_) => 0,
-        Reading::Float(lit) => scaling::put_float(out, text, lit),
-        Reading::Char(lit) => put_char(out, lit),
-        Reading::String(lit) => string_form::put_form(out, text, lit, Kind::Text),
-        Reading::Byte(lit) => put_byte(out, lit),
-        Reading::ByteString(lit) => string_form::put_form(out, text, lit, Kind::Bytes),
-        Reading::CString(lit) => string_form::put_form(out, text, lit, Kind::C),
-    }
 }
 
 // The kind of an accepted reading; 0 of a refused one.
@@ -195,7 +74,7 @@ fn measure_of(text: &[u8], found: Reading) -> Settled
     requires { ⌜ outcomeOf found ≡ readAt 0 (now text) ⌝ }
     ensures { λ r. ⌜ settledOf r ≡ measureOf (now (text .entry)) (outcomeOf found) ⌝ }
 {
-    let bare = bare_len(text, found);
+    let bare = bare_form::bare_len(text, found);
     match bare {
         Bare::Refused(kind, span) => Settled::Refused(kind, span),
         Bare::Len(n) => {
@@ -214,7 +93,7 @@ fn put_reading(out: &mut [u8], text: &[u8], found: Reading) -> usize
     ensures { λ r. ⌜ Wrote (formBy (now (text .entry)) (outcomeOf found)) r (now (out .entry)) (now (out .exit)) ⌝ }
 {
     let start = suffix_start(found);
-    let at = put_bare(out, text, found);
+    let at = bare_form::put_bare(out, text, found);
     at + buffer::put_bytes(&mut out[at..], &text[start..])
 }
 
@@ -281,7 +160,7 @@ fn settle_integer(text: &[u8], out: &mut [u8], lit: IntegerLit) -> Settled
     ensures { λ r. ⌜ settledOf r ≡ settleAt (now (text .entry)) (length (now (out .entry))) ⌝ }
     ensures { λ r. ⌜ now (out .exit) ≡ bufferAt (now (text .entry)) (now (out .entry)) ⌝ }
 {
-    let found = number_of(text, lit);
+    let found = bare_form::number_of(text, lit);
     let Within::Number(n) = found else {
         return Settled::Refused(ParseErrorKind::NoValue, Span::Nowhere);
     };

@@ -10,7 +10,7 @@ use Rattle.form.specs.Form.{integerForm}
 use Rattle.integer.specs.Value.{within}
 use Rattle.integer.specs.declared.Within.the-variants.{Number}
 use Rattle.settle.specs.Settled.{formed}
-use Rattle.settle.proofs.Readings.{integer-ends}
+use Rattle.bare_form.proofs.Readings.{integer-ends}
 use Rattle.settle.proofs.Forms.{numberIn, integer-over, integer-form, integer-size, integer-long, integer-formed, settle-refused, settle-small, settle-written}
 use Rattle.settle.proofs.settle_integer.Statement.{statement}
 use Rattle.settle.proofs.settle_integer.Tie as tie

@@ -2,7 +2,7 @@
 -- Assumes nothing.
 use borrow.Author.Needs.{needs}
 use borrow.Author.Tests.{le-leb, lt-leb}
-use Rattle.settle.proofs.Readings.{start}
+use Rattle.bare_form.proofs.Readings.{start}
 use Rattle.settle.proofs.string_fits.Statement.{statement}
 use Rattle.settle.proofs.string_fits.Tie as tie
 

@@ -12,7 +12,7 @@ use Rattle.err.specs.declared.Reading.{Reading}
 use Rattle.err.specs.declared.Reading.the-variants as reading
 use Rattle.err.proofs.Reading.{the-type}
 use Rattle.settle.specs.Settled.{surelyFits}
-use Rattle.settle.proofs.Readings.{start}
+use Rattle.bare_form.proofs.Readings.{start}
 use Rattle.settle.proofs.surely_fits.Statement.{statement}
 use Rattle.settle.proofs.surely_fits.Tie as tie
 

@@ -1,9 +1,9 @@
--- `settle::number_of` meets its contract.
+-- `bare_form::number_of` meets its contract.
 -- Assumes nothing.
 use borrow.Author.Needs.{needs}
-use Rattle.settle.proofs.Readings.{integer-ends}
-use Rattle.settle.proofs.number_of.Statement.{statement}
-use Rattle.settle.proofs.number_of.Tie as tie
+use Rattle.bare_form.proofs.Readings.{integer-ends}
+use Rattle.bare_form.proofs.number_of.Statement.{statement}
+use Rattle.bare_form.proofs.number_of.Tie as tie
 
 sub-number-within : tie.Need-sub-number-within
 sub-number-within c = integer-ends _ (c .before .args .lit) (c .before .pre) .0

@@ -1,4 +1,4 @@
--- `settle::put_char` meets its contract.
+-- `bare_form::put_char` meets its contract.
 -- Assumes nothing.
 use borrow.Author.Needs.{needs}
 use mathlib.Core.Path.{_≡_, ap}
@@ -13,8 +13,8 @@ use Rattle.buffer.proofs.Laws as laws
 use Rattle.form.specs.Escapes.{charForm}
 use Rattle.quoting.specs.Styled.{styledForms}
 use Rattle.quoting.proofs.Styles.{char-style}
-use Rattle.settle.proofs.put_char.Statement.{statement}
-use Rattle.settle.proofs.put_char.Tie as tie
+use Rattle.bare_form.proofs.put_char.Statement.{statement}
+use Rattle.bare_form.proofs.put_char.Tie as tie
 
 put-one-requires : tie.Need-put-one-requires
 put-one-requires c κs = search needs

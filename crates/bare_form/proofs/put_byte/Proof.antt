@@ -1,4 +1,4 @@
--- `settle::put_byte` meets its contract.
+-- `bare_form::put_byte` meets its contract.
 -- Assumes nothing.
 use borrow.Author.Needs.{needs}
 use mathlib.Core.Path.{_≡_, ap}
@@ -12,8 +12,8 @@ use Rattle.buffer.proofs.Laws as laws
 use Rattle.form.specs.Escapes.{byteForm}
 use Rattle.quoting.specs.Styled.{styledForm}
 use Rattle.quoting.proofs.Styles.{byte-style}
-use Rattle.settle.proofs.put_byte.Statement.{statement}
-use Rattle.settle.proofs.put_byte.Tie as tie
+use Rattle.bare_form.proofs.put_byte.Statement.{statement}
+use Rattle.bare_form.proofs.put_byte.Tie as tie
 
 put-two-requires : tie.Need-put-two-requires
 put-two-requires c κs = search needs

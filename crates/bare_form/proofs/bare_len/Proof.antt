@@ -1,4 +1,4 @@
--- `settle::bare_len` meets its contract.
+-- `bare_form::bare_len` meets its contract.
 -- Assumes nothing.
 use borrow.Author.Needs.{needs}
 use mathlib.Core.Path.{refl, sym, ap, _∙_}
@@ -8,11 +8,11 @@ use lib.ListN.{length, drop}
 use Rattle.err.specs.Reading.{outcomeOf}
 use Rattle.grammar.specs.Meaning as worth
 use Rattle.string.specs.declared.Kind.the-variants.{Text, Bytes, C}
-use Rattle.settle.specs.Settled.{len}
-use Rattle.settle.proofs.Readings.{short, utf8, bool-text, char-scalar, string-read}
-use Rattle.settle.proofs.Forms.{plain-bare, char-length, byte-length}
-use Rattle.settle.proofs.bare_len.Statement.{statement}
-use Rattle.settle.proofs.bare_len.Tie as tie
+use Rattle.bare_form.specs.Bare.{len}
+use Rattle.bare_form.proofs.Readings.{short, utf8, bool-text, char-scalar, string-read}
+use Rattle.bare_form.proofs.Lengths.{plain-bare, char-length, byte-length}
+use Rattle.bare_form.proofs.bare_len.Statement.{statement}
+use Rattle.bare_form.proofs.bare_len.Tie as tie
 
 enum-known-found : tie.Need-enum-known-found
 enum-known-found c = search needs

@@ -1,12 +1,12 @@
--- `settle::float_len` meets its contract.
+-- `bare_form::float_len` meets its contract.
 -- Assumes nothing.
 use borrow.Author.Needs.{needs}
 use mathlib.Core.Path.{sym, ap, _∙_}
 use Rattle.scaling.specs.Scaled.{lengthOf}
-use Rattle.settle.proofs.Readings.{short, float-read}
-use Rattle.settle.proofs.Forms.{bareIn, float-bare}
-use Rattle.settle.proofs.float_len.Statement.{statement}
-use Rattle.settle.proofs.float_len.Tie as tie
+use Rattle.bare_form.proofs.Readings.{short, float-read}
+use Rattle.bare_form.proofs.Lengths.{bareIn, float-bare}
+use Rattle.bare_form.proofs.float_len.Statement.{statement}
+use Rattle.bare_form.proofs.float_len.Tie as tie
 
 float-len-requires : tie.Need-float-len-requires
 float-len-requires c κs = let b = c .before in (short _ (b .pre), float-read _ (b .args .lit) (b .pre))

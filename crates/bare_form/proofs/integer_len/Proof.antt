@@ -1,13 +1,13 @@
--- `settle::integer_len` meets its contract.
+-- `bare_form::integer_len` meets its contract.
 -- Assumes nothing.
 use borrow.Author.Needs.{needs}
 use mathlib.Core.Path.{sym, ap, _∙_}
 use Rattle.scan.proofs.Parts.{part-to-end}
-use Rattle.settle.specs.Settled.{len}
-use Rattle.settle.proofs.Readings.{integer-ends}
-use Rattle.settle.proofs.Forms.{is-within, is-over}
-use Rattle.settle.proofs.integer_len.Statement.{statement}
-use Rattle.settle.proofs.integer_len.Tie as tie
+use Rattle.bare_form.specs.Bare.{len}
+use Rattle.bare_form.proofs.Readings.{integer-ends}
+use Rattle.bare_form.proofs.Lengths.{is-within, is-over}
+use Rattle.bare_form.proofs.integer_len.Statement.{statement}
+use Rattle.bare_form.proofs.integer_len.Tie as tie
 
 number-of-requires : tie.Need-number-of-requires
 number-of-requires c κs = search needs

@@ -1,4 +1,4 @@
--- `settle::put_bare` meets its contract.
+-- `bare_form::put_bare` meets its contract.
 -- Assumes nothing.
 use borrow.Author.Needs.{needs}
 use mathlib.Core.Path.{_≡_, refl, ap}
@@ -8,10 +8,10 @@ use native.Mathlib.Omega.{arith}
 use lib.ListN.{length, drop}
 use Rattle.buffer.specs.Buffer.{Wrote}
 use Rattle.string.specs.declared.Kind.the-variants.{Text, Bytes, C}
-use Rattle.settle.proofs.Readings.{short, utf8, bool-text, float-read, char-scalar, string-read}
-use Rattle.settle.proofs.Forms.{no-len, float-near}
-use Rattle.settle.proofs.put_bare.Statement.{statement}
-use Rattle.settle.proofs.put_bare.Tie as tie
+use Rattle.bare_form.proofs.Readings.{short, utf8, bool-text, float-read, char-scalar, string-read}
+use Rattle.bare_form.proofs.Lengths.{no-len, float-near}
+use Rattle.bare_form.proofs.put_bare.Statement.{statement}
+use Rattle.bare_form.proofs.put_bare.Tie as tie
 
 enum-told : tie.Need-enum-told
 enum-told c = search needs

@@ -1,0 +1,139 @@
+// The settled form of a reading without its suffix: measured, and written to the front of what is lent.
+use err::ByteLit;
+use err::CharLit;
+use err::FloatLit;
+use err::IntegerLit;
+use err::ParseErrorKind;
+use err::Reading;
+use err::Span;
+use integer::Within;
+use quoting::Style;
+use scaling::FormLen;
+use string::Kind;
+ghost use mathlib.Core.Path.{_≡_};
+ghost use mathlib.Core.Bool.{true, false};
+ghost use mathlib.Core.List.{[]};
+ghost use Prim.Native.Nat.{_≤_};
+ghost use lib.ListN.{length};
+ghost use Rattle.err.specs.Reading.{baseOf, outcomeOf};
+ghost use Rattle.err.specs.declared.Reading.the-variants as reading;
+ghost use Rattle.buffer.specs.Buffer.{Wrote};
+ghost use Rattle.utf8.specs.Utf8.{Scalar};
+ghost use Rattle.grammar.specs.Meaning as worth;
+ghost use Rattle.form.specs.Form.{bareForm};
+ghost use Rattle.integer.specs.Value.{within, number};
+ghost use Rattle.scaling.specs.Scaled.{part};
+ghost use Rattle.literal.specs.Readings.{readAt};
+ghost use Rattle.bare_form.specs.Bare.{bareOf, bareBy, bareFormBy, kindIn, Roomy};
+
+// How long a form is without its suffix, or why there is none.
+pub enum Bare {
+    Len(usize),
+    Refused(ParseErrorKind, Span),
+}
+
+fn char_style() -> Style
+    ensures { λ r. ⌜ (r .quote ≡ 39) × (r .wide ≡ true) ⌝ }
+{
+    Style {
+        quote: b'\'',
+        wide: true,
+    }
+}
+
+fn byte_style() -> Style
+    ensures { λ r. ⌜ (r .quote ≡ 39) × (r .wide ≡ false) ⌝ }
+{
+    Style {
+        quote: b'\'',
+        wide: false,
+    }
+}
+
+// An integer's number, where it is at most 2^64 − 1.
+pub fn number_of(text: &[u8], lit: IntegerLit) -> Within
+    requires { ⌜ outcomeOf (reading.Integer lit) ≡ readAt 0 (now text) ⌝ }
+    ensures { λ r. ⌜ r ≡ within 18446744073709551615 (number (baseOf (lit .base)) (part (lit .«start_main_part») (lit .«end_main_part») (now (text .entry)))) ⌝ }
+{
+    let start = lit.start_main_part;
+    let end = lit.end_main_part;
+    let base = lit.base;
+    integer::number_within(&text[start..end], base, 18446744073709551615)
+}
+
+fn integer_len(text: &[u8], lit: IntegerLit) -> Bare
+    requires { ⌜ outcomeOf (reading.Integer lit) ≡ readAt 0 (now text) ⌝ }
+    ensures { λ r. ⌜ bareOf r ≡ bareBy (now (text .entry)) (outcomeOf (reading.Integer lit)) ⌝ }
+{
+    let found = number_of(text, lit);
+    let Within::Number(n) = found else {
+        return Bare::Refused(ParseErrorKind::NoValue, Span::Nowhere);
+    };
+    let end = lit.end_main_part;
+    Bare::Len(integer_form::form_len(n, &text[end..]))
+}
+
+fn float_len(text: &[u8], lit: FloatLit) -> Bare
+    requires { ⌜ outcomeOf (reading.Float lit) ≡ readAt 0 (now text) ⌝ }
+    ensures { λ r. ⌜ bareOf r ≡ bareBy (now (text .entry)) (outcomeOf (reading.Float lit)) ⌝ }
+{
+    let found = scaling::float_len(text, lit);
+    let FormLen::Known(n) = found else {
+        return Bare::Refused(ParseErrorKind::PowerTooFar, Span::Nowhere);
+    };
+    Bare::Len(n)
+}
+
+fn put_char(out: &mut [u8], lit: CharLit) -> usize
+    requires { ⌜ Scalar (lit .value) × (length (bareForm (worth.char (lit .value)) []) ≤ length (now out)) ⌝ }
+    ensures { λ r. ⌜ Wrote (bareForm (worth.char (lit .value)) []) r (now (out .entry)) (now (out .exit)) ⌝ }
+{
+    let start = buffer::put_one(out, b'\'');
+    let at = start + body_form::put_char(&mut out[start..], lit.value, char_style());
+    at + buffer::put_one(&mut out[at..], b'\'')
+}
+
+fn put_byte(out: &mut [u8], lit: ByteLit) -> usize
+    requires { ⌜ length (bareForm (worth.byte (lit .value)) []) ≤ length (now out) ⌝ }
+    ensures { λ r. ⌜ Wrote (bareForm (worth.byte (lit .value)) []) r (now (out .entry)) (now (out .exit)) ⌝ }
+{
+    let start = buffer::put_two(out, b'b', b'\'');
+    let at = start + quoting::put_form(&mut out[start..], lit.value, byte_style());
+    at + buffer::put_one(&mut out[at..], b'\'')
+}
+
+// How long the form of a reading is without its suffix.
+pub fn bare_len(text: &[u8], found: Reading) -> Bare
+    requires { ⌜ outcomeOf found ≡ readAt 0 (now text) ⌝ }
+    ensures { λ r. ⌜ bareOf r ≡ bareBy (now (text .entry)) (outcomeOf found) ⌝ }
+{
+    match found {
+        Reading::Refused(kind, span) => Bare::Refused(kind, span),
+        Reading::Bool(_) => Bare::Len(text.len()),
+        Reading::Integer(lit) => integer_len(text, lit),
+        Reading::Float(lit) => float_len(text, lit),
+        Reading::Char(lit) => Bare::Len(2 + body_form::char_len(lit.value, char_style())),
+        Reading::String(lit) => Bare::Len(string_form::form_len(text, lit, Kind::Text)),
+        Reading::Byte(lit) => Bare::Len(3 + quoting::form_len(lit.value, byte_style())),
+        Reading::ByteString(lit) => Bare::Len(string_form::form_len(text, lit, Kind::Bytes)),
+        Reading::CString(lit) => Bare::Len(string_form::form_len(text, lit, Kind::C)),
+    }
+}
+
+// The form of a reading that is no integer, without its suffix. A refused reading cannot arise: it has no form.
+pub fn put_bare(out: &mut [u8], text: &[u8], found: Reading) -> usize
+    requires { ⌜ (outcomeOf found ≡ readAt 0 (now text)) × Roomy (now text) (outcomeOf found) (length (now out)) × (kindIn (outcomeOf found) ≡ 2 → ⊥) ⌝ }
+    ensures { λ r. ⌜ Wrote (bareFormBy (now (text .entry)) (outcomeOf found)) r (now (out .entry)) (now (out .exit)) ⌝ }
+{
+    match found {
+        Reading::Refused(_, _) => 0,
+        Reading::Bool(_) => buffer::put_bytes(out, text),
+        Reading::Integer(_) => 0,
+        Reading::Float(lit) => scaling::put_float(out, text, lit),
+        Reading::Char(lit) => put_char(out, lit),
+        Reading::String(lit) => string_form::put_form(out, text, lit, Kind::Text),
+        Reading::Byte(lit) => put_byte(out, lit),
+        Reading::ByteString(lit) => string_form::put_form(out, text, lit, Kind::Bytes),
+        Reading::CString(lit) => string_form::put_form(out, text, lit, Kind::C),
+    }
+}
