@@ -18,7 +18,8 @@ use Rattle.integer.specs.declared.Within.the-variants.{Number, Over}
 use Rattle.utf8.specs.Utf8.{Scalar, encode}
 use Rattle.quoting.specs.Styled.{styledForm, styledForms}
 use Rattle.quoting.proofs.Styles.{char-style, byte-style}
-use Rattle.scaling.specs.Scaled.{near, Length, known, too-far}
+use Rattle.scaling.specs.Scaled.{near}
+use Rattle.float_form.specs.Floats.{Length, known, too-far}
 use Rattle.bare_form.specs.Bare.{BareForm, len, bad, bareLen}
 
 -- a length is no refusal
@@ -60,7 +61,7 @@ module _ (m : ℕ) (x : List ℕ) where
       by-test true e = let z : _≡_ {A = ℕ} 0 1 = cc in absurd (omega arith)
       by-test false e = refl
 
--- the length of a float's form, as scaling answers it
+-- the length of a float's form, as float_form answers it
 abbrev pub bareIn : Length → BareForm
 bareIn (known n) = len n
 bareIn too-far = bad 46 none

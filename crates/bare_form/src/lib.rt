@@ -6,9 +6,9 @@ use err::IntegerLit;
 use err::ParseErrorKind;
 use err::Reading;
 use err::Span;
+use float_form::FormLen;
 use integer::Within;
 use quoting::Style;
-use scaling::FormLen;
 use string::Kind;
 ghost use mathlib.Core.Path.{_≡_};
 ghost use mathlib.Core.Bool.{true, false};
@@ -77,7 +77,7 @@ fn float_len(text: &[u8], lit: FloatLit) -> Bare
     requires { ⌜ outcomeOf (reading.Float lit) ≡ readAt 0 (now text) ⌝ }
     ensures { λ r. ⌜ bareOf r ≡ bareBy (now (text .entry)) (outcomeOf (reading.Float lit)) ⌝ }
 {
-    let found = scaling::float_len(text, lit);
+    let found = float_form::float_len(text, lit);
     let FormLen::Known(n) = found else {
         return Bare::Refused(ParseErrorKind::PowerTooFar, Span::Nowhere);
     };
@@ -129,7 +129,7 @@ pub fn put_bare(out: &mut [u8], text: &[u8], found: Reading) -> usize
         Reading::Refused(_, _) => 0,
         Reading::Bool(_) => buffer::put_bytes(out, text),
         Reading::Integer(_) => 0,
-        Reading::Float(lit) => scaling::put_float(out, text, lit),
+        Reading::Float(lit) => float_form::put_float(out, text, lit),
         Reading::Char(lit) => put_char(out, lit),
         Reading::String(lit) => string_form::put_form(out, text, lit, Kind::Text),
         Reading::Byte(lit) => put_byte(out, lit),

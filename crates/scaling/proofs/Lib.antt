@@ -5,5 +5,4 @@ pub mod Signs
 pub mod Reducing
 pub mod Shape
 pub mod Texts
-pub mod Forms
 pub mod Examples

@@ -2,7 +2,7 @@
 -- Assumes nothing.
 use mathlib.Core.Path.{_≡_}
 use mathlib.Core.Bool.{Bool, true, false, cond}
-use mathlib.Core.List.{List, _∷_, _++_}
+use mathlib.Core.List.{List}
 use Prim.Native.Nat.{ℕ, _+_, _-_, _≤_, _<_}
 use lib.Dec.{leb, ltb}
 use lib.ListN.{length, take, drop}
@@ -17,8 +17,6 @@ use Rattle.scaling.specs.Digits.{digitsOf}
 use Rattle.scaling.specs.declared.Scaled.{Scaled}
 use Rattle.scaling.specs.declared.Scaling.{Scaling}
 use Rattle.scaling.specs.declared.Scaling.the-variants as scaling
-use Rattle.scaling.specs.declared.FormLen.{FormLen}
-use Rattle.scaling.specs.declared.FormLen.the-variants as answer
 
 -- the bytes from one offset to another
 abbrev pub part : ℕ → ℕ → List ℕ → List ℕ
@@ -70,20 +68,3 @@ scalingBy first last up down =
 -- where an exponent's sign and digits start: behind the `e`, or at the end where there is none
 abbrev pub exponentStart : ℕ → ℕ → ℕ
 exponentStart end number-end = cond (ltb end number-end) (end + 1) end
-
--- `e`, k
-abbrev pub powerForm : Scaled → List ℕ
-powerForm r = 101 ∷ cond (r .negative) (45 ∷ decimal (r .power)) (decimal (r .power))
-
--- m, `e`, k
-abbrev pub scaledForm : List ℕ → Scaled → List ℕ
-scaledForm m r = digitsOf (part (r .first) (r .last) m) ++ powerForm r
-
--- the length of a float's form, or that its power is too far
-pub data Length : Type 0 where
-  known : ℕ → Length
-  too-far : Length
-
-abbrev pub lengthOf : FormLen → Length
-lengthOf (answer.Known n) = known n
-lengthOf answer.TooFar = too-far

@@ -2,7 +2,7 @@
 -- Assumes nothing.
 use borrow.Author.Needs.{needs}
 use mathlib.Core.Path.{sym, ap, _∙_}
-use Rattle.scaling.specs.Scaled.{lengthOf}
+use Rattle.float_form.specs.Floats.{lengthOf}
 use Rattle.bare_form.proofs.Readings.{short, float-read}
 use Rattle.bare_form.proofs.Lengths.{bareIn, float-bare}
 use Rattle.bare_form.proofs.float_len.Statement.{statement}

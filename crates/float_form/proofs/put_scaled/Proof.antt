@@ -1,14 +1,15 @@
--- `scaling::put_scaled` meets its contract.
+-- `float_form::put_scaled` meets its contract.
 -- Assumes nothing.
 use borrow.Author.Needs.{needs}
 use Prim.Native.Nat.{_+_, _≤_}
 use native.Mathlib.Omega.{arith}
 use lib.ListN.{length, length-append}
 use Rattle.scaling.specs.Digits.{digitsOf}
-use Rattle.scaling.specs.Scaled.{part, powerForm}
+use Rattle.scaling.specs.Scaled.{part}
 use Rattle.buffer.proofs.Laws as laws
-use Rattle.scaling.proofs.put_scaled.Statement.{statement}
-use Rattle.scaling.proofs.put_scaled.Tie as tie
+use Rattle.float_form.specs.Floats.{powerForm}
+use Rattle.float_form.proofs.put_scaled.Statement.{statement}
+use Rattle.float_form.proofs.put_scaled.Tie as tie
 
 -- what is asked is the digits and the power
 room : (c : tie.Start) →

@@ -1,9 +1,9 @@
--- `scaling::put_block` meets its contract.
+-- `float_form::put_block` meets its contract.
 -- Assumes nothing.
 use borrow.Author.Needs.{needs}
 use Rattle.scaling.proofs.Digits.{digits-whole}
-use Rattle.scaling.proofs.put_block.Statement.{statement}
-use Rattle.scaling.proofs.put_block.Tie as tie
+use Rattle.float_form.proofs.put_block.Statement.{statement}
+use Rattle.float_form.proofs.put_block.Tie as tie
 
 count-requires : tie.Need-count-requires
 count-requires c κs = search needs

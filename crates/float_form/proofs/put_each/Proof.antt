@@ -1,4 +1,4 @@
--- `scaling::put_each` meets its contract.
+-- `float_form::put_each` meets its contract.
 -- Assumes nothing.
 use borrow.Author.Needs.{needs}
 use mathlib.Core.Path.{_≡_, sym, ap, _∙_}
@@ -11,10 +11,10 @@ use lib.ListN.{length, take, getD, length-append}
 use lib.Seq.{take-all}
 use Rattle.buffer.specs.Buffer.{Wrote}
 use Rattle.buffer.proofs.Laws as laws
 use Rattle.scaling.specs.Digits.{digitsOf}
 use Rattle.scaling.proofs.Digits.{digits-front, digits-one, digits-pass}
-use Rattle.scaling.proofs.put_each.Statement.{statement}
-use Rattle.scaling.proofs.put_each.Tie as tie
+use Rattle.float_form.proofs.put_each.Statement.{statement}
+use Rattle.float_form.proofs.put_each.Tie as tie
 
 -- the digits of the front are written
 abbrev Inv-loop : tie.InvT-loop

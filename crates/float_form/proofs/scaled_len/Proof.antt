@@ -1,13 +1,13 @@
--- `scaling::scaled_len` meets its contract.
+-- `float_form::scaled_len` meets its contract.
 -- Assumes nothing.
 use borrow.Author.Needs.{needs}
 use Prim.Native.Nat.{_+_, _≤_}
 use native.Mathlib.Omega.{arith}
 use lib.ListN.{length-append}
 use Rattle.buffer.proofs.Decimals.{decimal-u64}
 use Rattle.scaling.proofs.Digits.{part-short}
-use Rattle.scaling.proofs.scaled_len.Statement.{statement}
-use Rattle.scaling.proofs.scaled_len.Tie as tie
+use Rattle.float_form.proofs.scaled_len.Statement.{statement}
+use Rattle.float_form.proofs.scaled_len.Tie as tie
 
 -- the digits and the power are within their bounds
 short : (c : tie.After-decimal-len) → c .before .digits-len .result + 1 + c .decimal-len .result ≤ 65557

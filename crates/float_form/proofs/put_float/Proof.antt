@@ -1,4 +1,4 @@
--- `scaling::put_float` meets its contract.
+-- `float_form::put_float` meets its contract.
 -- Assumes nothing.
 use borrow.Author.Needs.{needs}
 use mathlib.Core.Path.{_≡_, sym}
@@ -8,11 +8,11 @@ use lib.ListN.{take}
 use Rattle.scan.proofs.Cases.{clash}
 use Rattle.form.specs.Reduced.{reduce}
 use Rattle.form.specs.Form.{reducedForm}
 use Rattle.scaling.specs.Scaled.{numberOf, ScaledTo}
 use Rattle.scaling.proofs.Texts.{mantissa-length}
-use Rattle.scaling.proofs.Forms as forms
-use Rattle.scaling.proofs.put_float.Statement.{statement}
-use Rattle.scaling.proofs.put_float.Tie as tie
+use Rattle.float_form.proofs.Forms as forms
+use Rattle.float_form.proofs.put_float.Statement.{statement}
+use Rattle.float_form.proofs.put_float.Tie as tie
 
 zero : (c : tie.After-enum-told) →
     let a = c .before .before .before .before .before .args in reducedForm (reduce (numberOf (a .text .now) (a .lit))) ≡ 48 ∷ 101 ∷ 48 ∷ []

@@ -10,10 +10,11 @@ use Rattle.buffer.specs.Digits.{decimal}
 use Rattle.grammar.specs.Decimal.{Decimal}
 use Rattle.form.specs.Reduced.{reduce}
 use Rattle.form.specs.Form.{reducedForm}
-use Rattle.scaling.specs.Scaled.{near, ScaledTo, Scales, scaledForm}
+use Rattle.scaling.specs.Scaled.{near, ScaledTo, Scales}
 use Rattle.scaling.specs.declared.Scaled.{Scaled}
 use Rattle.scaling.specs.declared.Scaling.{Scaling}
 use Rattle.scaling.specs.declared.Scaling.the-variants as scaling
+use Rattle.float_form.specs.Floats.{scaledForm}
 
 module _ (m : List ℕ) (d : Decimal) (r : Scaling) (h : Scales m d r) where
   zero-coef : r ≡ scaling.Zero → d .coef ≡ 0

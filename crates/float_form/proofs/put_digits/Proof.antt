@@ -1,4 +1,4 @@
--- `scaling::put_digits` meets its contract.
+-- `float_form::put_digits` meets its contract.
 -- Assumes nothing.
 use borrow.Author.Needs.{needs}
 use mathlib.Core.Path.{_≡_, ap}
@@ -9,11 +9,11 @@ use lib.ListN.{length, take, length-append}
 use lib.Seq.{take-all}
 use Rattle.buffer.specs.Buffer.{Wrote}
 use Rattle.buffer.proofs.Laws as laws
 use Rattle.scaling.specs.Digits.{digitsOf}
 use Rattle.scaling.specs.Scaled.{part}
 use Rattle.scaling.proofs.Digits.{digits-front, digits-to}
-use Rattle.scaling.proofs.put_digits.Statement.{statement}
-use Rattle.scaling.proofs.put_digits.Tie as tie
+use Rattle.float_form.proofs.put_digits.Statement.{statement}
+use Rattle.float_form.proofs.put_digits.Tie as tie
 
 -- the digits of the front are written
 abbrev Inv-loop : tie.InvT-loop

@@ -1,4 +1,4 @@
--- `scaling::put_power` meets its contract.
+-- `float_form::put_power` meets its contract.
 -- Assumes nothing.
 use borrow.Author.Needs.{needs}
 use Prim.Native.Nat.{_+_, _≤_}
@@ -6,8 +6,8 @@ use native.Mathlib.Omega.{arith}
 use lib.ListN.{length}
 use Rattle.buffer.specs.Digits.{decimal}
 use Rattle.buffer.proofs.Laws as laws
-use Rattle.scaling.proofs.put_power.Statement.{statement}
-use Rattle.scaling.proofs.put_power.Tie as tie
+use Rattle.float_form.proofs.put_power.Statement.{statement}
+use Rattle.float_form.proofs.put_power.Tie as tie
 
 -- what is asked, with a minus sign and without
 room-minus : (c : tie.Then1) → 2 + length (decimal (c .before .before .args .r .power)) ≤ length (c .before .before .args .out .now)

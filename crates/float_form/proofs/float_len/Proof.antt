@@ -1,14 +1,15 @@
--- `scaling::float_len` meets its contract.
+-- `float_form::float_len` meets its contract.
 -- Assumes nothing.
 use borrow.Author.Needs.{needs}
 use mathlib.Core.Path.{sym, ap}
 use native.Mathlib.Omega.{arith}
 use lib.ListN.{take}
-use Rattle.scaling.specs.Scaled.{numberOf, ScaledTo, known}
+use Rattle.scaling.specs.Scaled.{numberOf, ScaledTo}
 use Rattle.scaling.proofs.Texts.{mantissa-length, order}
-use Rattle.scaling.proofs.Forms as forms
-use Rattle.scaling.proofs.float_len.Statement.{statement}
-use Rattle.scaling.proofs.float_len.Tie as tie
+use Rattle.float_form.specs.Floats.{known}
+use Rattle.float_form.proofs.Forms as forms
+use Rattle.float_form.proofs.float_len.Statement.{statement}
+use Rattle.float_form.proofs.float_len.Tie as tie
 
 found : (c : tie.After-scaled-len-arg) →
     let a = c .before .before .before .before .before .before .args in
