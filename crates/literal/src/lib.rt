@@ -38,7 +38,7 @@ fn check_text(text: &[u8]) -> Checked
     if 65536 < text.len() {
         return Checked::Bad(ParseErrorKind::TextTooLong);
     }
-    if utf8::is_utf8(text) {
+    if validation::is_utf8(text) {
         return Checked::Good;
     }
     Checked::Bad(ParseErrorKind::NotUtf8)

@@ -2,11 +2,7 @@ pub mod First
 pub mod Laws
 pub mod Text
 pub mod At
-pub mod Ranges
 pub mod Valid
 pub mod Cuts
 pub mod Aligned
 pub mod Examples
-pub mod HighBytes
-pub mod Clean
-pub mod Faults

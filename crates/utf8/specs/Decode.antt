@@ -1,11 +1,9 @@
 -- The first character of a text, found by computing; `proofs/Laws` shows that it is the one that RFC 3629's table encodes so.
 -- Assumes nothing.
-use mathlib.Core.Path.{_≡_}
 use mathlib.Core.Bool.{cond}
 use mathlib.Core.List.{List, [], _∷_}
-use Prim.Native.Nat.{ℕ, _+_, _-_, _*_, _/_, _%_, _<_}
+use Prim.Native.Nat.{ℕ, _+_, _-_, _*_, _/_, _%_}
 use lib.Dec.{ltb, eqb}
-use lib.ListN.{length, getD}
 use lib.Count.{leadingZeros}
 use Rattle.utf8.specs.declared.Decoded.{Decoded}
 use Rattle.utf8.specs.declared.Decoded.the-variants.{Char, Bad}
@@ -82,9 +80,3 @@ decode (a ∷ r) = decodeBy (lengthFrom a) a r
 abbrev pub lenOf : Decoded → ℕ
 lenOf (Char s n) = n
 lenOf Bad = 0
-
--- the bytes a and b stand at an offset of the text, one behind the other
-pub record PairAt (text : List ℕ) (at a b : ℕ) : Type 0 where
-  pub within : at + 1 < length text
-  pub first : a ≡ getD text at 0
-  pub second : b ≡ getD text (at + 1) 0

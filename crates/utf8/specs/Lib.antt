@@ -2,4 +2,3 @@ pub mod Utf8
 pub mod Decode
 pub mod Valid
 pub mod Cut
-pub mod Faults

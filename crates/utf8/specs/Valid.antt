@@ -1,9 +1,8 @@
 -- Whether a text is UTF-8, by computing; `proofs/Valid` shows that this is `Utf8`.
 -- Assumes nothing.
-use mathlib.Core.Bool.{Bool, true, false, cond}
+use mathlib.Core.Bool.{Bool, true, false}
 use mathlib.Core.List.{List, [], _∷_}
 use Prim.Native.Nat.{ℕ, zero, suc}
-use lib.Dec.{ltb}
 use lib.ListN.{length, drop}
 use Rattle.utf8.specs.Decode.{decode}
 use Rattle.utf8.specs.declared.Decoded.the-variants.{Char, Bad}
@@ -19,15 +18,3 @@ charsWithin (suc k) (a ∷ r) = elim (decode (a ∷ r)) [ Char s n ↦ charsWith
 unfoldable pub isUtf8 : List ℕ → Bool
 unfolding charsWithin
 isUtf8 text = charsWithin (length text) text
-
--- RFC 3629, section 3: a byte 0xxxxxxx is a character of its own, an ASCII one
-unfoldable pub ascii : ℕ → Bool
-ascii b = ltb b 128
-
--- the larger of two numbers, and the highest number of a list and m: where it is below 128, the list is ASCII
-abbrev pub largerOf : ℕ → ℕ → ℕ
-largerOf a b = cond (ltb a b) b a
-
-abbrev pub highestFrom : ℕ → List ℕ → ℕ
-highestFrom m [] = m
-highestFrom m (b ∷ s) = highestFrom (largerOf m b) s

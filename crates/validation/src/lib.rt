@@ -1,0 +1,290 @@
+// Whether a text is UTF-8: a short one is checked character by character, a long one byte by byte in blocks.
+ghost use mathlib.Core.Path.{_≡_};
+ghost use Prim.Native.Nat.{_+_, _-_, _≤_, _<_};
+ghost use lib.ListN.{length, getD, take, drop};
+ghost use Rattle.scan.specs.Run.{run};
+ghost use Rattle.utf8.specs.Decode.{decode, lenOf};
+ghost use Rattle.utf8.specs.Valid.{isUtf8};
+ghost use Rattle.utf8.specs.Cut.{tail};
+ghost use Rattle.validation.specs.Pairs.{PairAt};
+ghost use Rattle.validation.specs.HighBytes.{ascii, largerOf, highestFrom};
+ghost use Rattle.validation.specs.Faults.{leastBehind, mostBehind, faultOf, worstFrom, worstBehind, cleanBehind};
+
+// The highest byte. With no exit on the way the compiler makes vectors of it.
+fn highest(s: &[u8]) -> u8
+    ensures { λ r. ⌜ r ≡ highestFrom 0 (now (s .entry)) ⌝ }
+{
+    let mut m: u8 = 0;
+    let mut i = 0;
+    while i < s.len() {
+        m = larger(m, s[i]);
+        i += 1;
+    }
+    m
+}
+
+fn larger(a: u8, b: u8) -> u8
+    ensures { λ r. ⌜ r ≡ largerOf a b ⌝ }
+{
+    if a < b { b } else { a }
+}
+
+// Where the bytes below 128 end that start at an offset, byte by byte.
+fn ascii_end(text: &[u8], from: usize) -> usize
+    ensures { λ r. ⌜ r ≡ from + run ascii (drop from (now (text .entry))) ⌝ }
+{
+    let mut i = from;
+    while i < text.len() {
+        if 127 < text[i] {
+            return i;
+        }
+        i += 1;
+    }
+    i
+}
+
+// How many bytes at the front are below 128: by blocks while there are 64 bytes, then the rest at once. Where one of them has a higher byte,
+// its place is found byte by byte.
+fn ascii_front(text: &[u8]) -> usize
+    ensures { λ r. ⌜ r ≡ run ascii (now (text .entry)) ⌝ }
+{
+    let mut i = 0;
+    while 64 <= text.len() - i {
+        let e = i + 64;
+        if 127 < highest(&text[i..e]) {
+            return ascii_end(text, i);
+        }
+        i = e;
+    }
+    if highest(&text[i..]) < 128 {
+        return text.len();
+    }
+    ascii_end(text, i)
+}
+
+// Whether a byte 10xxxxxx stands at an offset; behind the end there is none.
+fn has_tail(text: &[u8], at: usize) -> bool
+    ensures { λ r. ⌜ r ≡ tail (getD (now (text .entry)) at 0) ⌝ }
+{
+    if at < text.len() {
+        return utf8::is_tail(text[at]);
+    }
+    false
+}
+
+// How many bytes the character at an offset has, by its first byte, E0 to EF, and its second; 0 where there is none.
+fn three_len(text: &[u8], at: usize, first: u8, second: u8) -> usize
+    requires { ⌜ PairAt (now text) at first second × (0xE0 ≤ first) × (first < 0xF0) ⌝ }
+    ensures { λ r. ⌜ r ≡ lenOf (decode (drop at (now (text .entry)))) ⌝ }
+{
+    if !utf8::is_tail(second) {
+        return 0;
+    }
+    if first == 0xE0 {
+        if second < 0xA0 {
+            return 0;
+        }
+    }
+    if first == 0xED {
+        if 0x9F < second {
+            return 0;
+        }
+    }
+    if has_tail(text, at + 2) { 3 } else { 0 }
+}
+
+// The same for a first byte F0 to FF.
+fn four_len(text: &[u8], at: usize, first: u8, second: u8) -> usize
+    requires { ⌜ PairAt (now text) at first second × (0xF0 ≤ first) ⌝ }
+    ensures { λ r. ⌜ r ≡ lenOf (decode (drop at (now (text .entry)))) ⌝ }
+{
+    if 0xF4 < first {
+        return 0;
+    }
+    if !utf8::is_tail(second) {
+        return 0;
+    }
+    if first == 0xF0 {
+        if second < 0x90 {
+            return 0;
+        }
+    }
+    if first == 0xF4 {
+        if 0x8F < second {
+            return 0;
+        }
+    }
+    if !has_tail(text, at + 2) {
+        return 0;
+    }
+    if has_tail(text, at + 3) { 4 } else { 0 }
+}
+
+// How many bytes the character at an offset has, by the ranges of its first two bytes; 0 where there is none.
+fn valid_len(text: &[u8], at: usize) -> usize
+    requires { ⌜ at < length (now text) ⌝ }
+    ensures { λ r. ⌜ r ≡ lenOf (decode (drop at (now (text .entry)))) ⌝ }
+{
+    let first = text[at];
+    if first < 0x80 {
+        return 1;
+    }
+    if first < 0xC2 {
+        return 0;
+    }
+    if text.len() - at < 2 {
+        return 0;
+    }
+    let second = text[at + 1];
+    if first < 0xE0 {
+        if utf8::is_tail(second) {
+            return 2;
+        }
+        return 0;
+    }
+    if first < 0xF0 {
+        return three_len(text, at, first, second);
+    }
+    four_len(text, at, first, second)
+}
+
+// The least byte that may stand behind a byte.
+fn least_behind(a: u8) -> u8
+    ensures { λ r. ⌜ r ≡ leastBehind a ⌝ }
+{
+    if a == 0xE0 {
+        return 0xA0;
+    }
+    if a == 0xF0 {
+        return 0x90;
+    }
+    0
+}
+
+// The largest byte that may stand behind a byte.
+fn most_behind(a: u8) -> u8
+    ensures { λ r. ⌜ r ≡ mostBehind a ⌝ }
+{
+    if a == 0xED {
+        return 0x9F;
+    }
+    if a == 0xF4 {
+        return 0x8F;
+    }
+    0xFF
+}
+
+// How many rules a byte breaks behind the three before it. Every test is made, so that the compiler makes vectors of `worst_fault`.
+fn fault(c: u8, b: u8, a: u8, x: u8) -> u8
+    ensures { λ r. ⌜ r ≡ faultOf c b a x ⌝ }
+{
+    let wanted = scan::bit(0xC0 <= a) + scan::bit(0xE0 <= b) + scan::bit(0xF0 <= c);
+    let odd = scan::bit((wanted != 0) != utf8::is_tail(x));
+    let never = scan::bit(x / 2 == 0x60) + scan::bit(0xF4 < x);
+    odd + never + scan::bit(x < least_behind(a)) + scan::bit(most_behind(a) < x)
+}
+
+// The most rules that a byte behind the first three breaks.
+fn worst_fault(s: &[u8]) -> u8
+    ensures { λ r. ⌜ r ≡ worstBehind (now (s .entry)) ⌝ }
+{
+    let mut m: u8 = 0;
+    let mut i = 3;
+    while i < s.len() {
+        m = larger(m, fault(s[i - 3], s[i - 2], s[i - 1], s[i]));
+        i += 1;
+    }
+    m
+}
+
+// The same for the first three bytes of a text, before which no bytes stand.
+fn front_fault(text: &[u8]) -> u8
+    requires { ⌜ 3 ≤ length (now text) ⌝ }
+    ensures { λ r. ⌜ r ≡ worstFrom 0 0 0 0 (take 3 (now (text .entry))) ⌝ }
+{
+    let front: [u8; 6] = [0, 0, 0, text[0], text[1], text[2]];
+    worst_fault(&front)
+}
+
+// Whether no tail is wanted behind the last three bytes of a text.
+fn ends_clean(text: &[u8]) -> bool
+    requires { ⌜ 3 ≤ length (now text) ⌝ }
+    ensures { λ r. ⌜ r ≡ cleanBehind (drop (length (now (text .entry)) - 3) (now (text .entry))) ⌝ }
+{
+    if 0xC0 <= text[text.len() - 1] {
+        return false;
+    }
+    if 0xE0 <= text[text.len() - 2] {
+        return false;
+    }
+    text[text.len() - 3] < 0xF0
+}
+
+// Whether no byte from an offset on is at fault, and no tail is wanted at the end: by blocks, then the rest at once.
+fn clean_from(text: &[u8], from: usize) -> bool
+    requires { ⌜ (3 ≤ from) × (from ≤ length (now text)) ⌝ }
+    ensures { λ r. ⌜ r ≡ cleanBehind (drop (from - 3) (now (text .entry))) ⌝ }
+{
+    let mut at = from;
+    while 256 <= text.len() - at {
+        let a = at - 3;
+        let e = at + 256;
+        if worst_fault(&text[a..e]) != 0 {
+            return false;
+        }
+        at = e;
+    }
+    let a = at - 3;
+    if worst_fault(&text[a..]) != 0 {
+        return false;
+    }
+    ends_clean(text)
+}
+
+// Whether a long text is UTF-8: what is ASCII at the front is passed in blocks, then every byte is held against the three before it.
+fn long_utf8(text: &[u8]) -> bool
+    requires { ⌜ 3 ≤ length (now text) ⌝ }
+    ensures { λ r. ⌜ r ≡ isUtf8 (now (text .entry)) ⌝ }
+{
+    let at = ascii_front(text);
+    if at == text.len() {
+        return true;
+    }
+    if 3 <= at {
+        return clean_from(text, at);
+    }
+    if front_fault(text) != 0 {
+        return false;
+    }
+    clean_from(text, 3)
+}
+
+// Whether a short text is UTF-8, character by character where it is not ASCII.
+fn short_utf8(text: &[u8]) -> bool
+    ensures { λ r. ⌜ r ≡ isUtf8 (now (text .entry)) ⌝ }
+{
+    if 8 <= text.len() {
+        if highest(text) < 0x80 {
+            return true;
+        }
+    }
+    let mut at = 0;
+    while at < text.len() {
+        let n = valid_len(text, at);
+        if n == 0 {
+            return false;
+        }
+        at += n;
+    }
+    true
+}
+
+// Whether a text is UTF-8.
+pub fn is_utf8(text: &[u8]) -> bool
+    ensures { λ r. ⌜ r ≡ isUtf8 (now (text .entry)) ⌝ }
+{
+    if text.len() < 128 {
+        return short_utf8(text);
+    }
+    long_utf8(text)
+}
