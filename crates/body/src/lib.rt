@@ -1,4 +1,4 @@
-// Quoted bodies: measured, written, and judged with the suffix behind them.
+// Quoted bodies: measured, and judged with the suffix behind them.
 use err::Hashes;
 use err::ParseErrorKind;
 use err::Span;
@@ -11,10 +11,9 @@ use parse::Suffix;
 ghost use mathlib.Core.Path.{_≡_};
 ghost use mathlib.Core.Bool.{cond};
 ghost use Prim.Native.Nat.{_+_, _-_, _≤_, _<_, min};
-ghost use lib.ListN.{length, getD, take, drop};
+ghost use lib.ListN.{length, getD, drop};
 ghost use Rattle.err.specs.Reading.{hashesOf};
 ghost use Rattle.scan.specs.Run.{run};
-ghost use Rattle.buffer.specs.Buffer.{Wrote};
 ghost use Rattle.utf8.specs.Cut.{lastLen};
 ghost use Rattle.body.specs.Code.{codeOf, Stopped};
 ghost use Rattle.body.specs.Step.{stop, endOf, nextOf, lineBreakOf, backslashOf, plainOf, plainByte, stepOf};
@@ -80,7 +79,7 @@ pub fn plain(b: u8, k: Allowed) -> Step
 }
 
 // Whether a byte stands for itself.
-fn is_plain(b: u8, k: Allowed) -> bool
+pub fn is_plain(b: u8, k: Allowed) -> bool
     ensures { λ r. ⌜ r ≡ plainByte k b ⌝ }
 {
     if b == b'\\' {
@@ -139,7 +138,7 @@ fn byte_run(s: &[u8], from: usize, stop: usize, k: Allowed) -> usize
 }
 
 // Where the run ends, by blocks while there are 64 bytes.
-fn block_end(s: &[u8], from: usize, k: Allowed) -> usize
+pub fn block_end(s: &[u8], from: usize, k: Allowed) -> usize
     requires { ⌜ from ≤ length (now s) ⌝ }
     ensures { λ r. ⌜ r ≡ from + run (plainByte k) (drop from (now (s .entry))) ⌝ }
 {
@@ -281,7 +280,7 @@ pub fn x_at(s: &[u8], at: usize, end: usize, k: Allowed) -> u64
 }
 
 // The same by `u`.
-fn u_at(s: &[u8], at: usize, end: usize, k: Allowed) -> u64
+pub fn u_at(s: &[u8], at: usize, end: usize, k: Allowed) -> u64
     requires { ⌜ (at < length (now s)) × ((length (now s) < 4294967296) × (end ≤ length (now s))) ⌝ }
     ensures { λ r. ⌜ r ≡ uAt k (now (s .entry)) at end ⌝ }
 {
@@ -342,55 +341,6 @@ fn stride_at(s: &[u8], at: usize, end: usize, k: Allowed) -> Stride
     }
 }
 
-// The same, with what it stands for written to the front of out.
-fn put_piece(out: &mut [u8], s: &[u8], at: usize, end: usize, k: Allowed) -> Stride
-    requires { ⌜ (getD (now s) at 0 ≡ 92) × ((length (now s) < 4294967296) × (end ≡ length (now s) - lastLen (now s))) × (length (valueIn (backslashOf k (drop at (now s)))) ≤ length (now out)) ⌝ }
-    ensures { λ r. ⌜ (r .next ≡ nextAt at (backslashOf k (drop at (now (s .entry))))) × Wrote (valueIn (backslashOf k (drop at (now (s .entry))))) (r .value) (now (out .entry)) (now (out .exit)) ⌝ }
-{
-    let l = letter_at(s, at, end);
-    if l != 0 {
-        return Stride {
-            next: at + 2,
-            value: buffer::put_one(out, l),
-        };
-    }
-    let e = break_end(s, at);
-    if e != 0 {
-        return Stride { next: e, value: 0 };
-    }
-    let x = x_at(s, at, end, k);
-    if x != 0 {
-        return Stride {
-            next: at + 4,
-            value: escape::put_value(out, escape::code_value(x)),
-        };
-    }
-    let u = u_at(s, at, end, k);
-    if u != 0 {
-        let n = escape::put_value(out, escape::code_value(u));
-        let len = escape::code_len(u);
-        if len == 6 {
-            return Stride {
-                next: at + 6,
-                value: n,
-            };
-        }
-        return Stride {
-            next: at + len,
-            value: n,
-        };
-    }
-    // what is left is `\0`, or refused
-    let c = code_at(s, at, end, k);
-    if c == 0 {
-        return Stride { next: 0, value: 0 };
-    }
-    Stride {
-        next: at + escape::code_len(c),
-        value: escape::put_value(out, escape::code_value(c)),
-    }
-}
-
 // Why a quoted body ends where neither a piece nor a byte that stands for itself is: by litrs's steps, of which only those that end it are
 // reached from here.
 fn ending_at(s: &[u8], at: usize, last: usize, k: Allowed) -> Ending
@@ -446,67 +396,6 @@ fn measure(s: &[u8], k: Allowed) -> Measured
         }
         n += e - i;
         i = e;
-    }
-}
-
-// At most 16 bytes of the run at an offset are written to the front of out, byte by byte, so that a short run pays for no call.
-fn put_few(out: &mut [u8], s: &[u8], from: usize, k: Allowed) -> usize
-    requires { ⌜ (from ≤ length (now s)) × (run (plainByte k) (drop from (now s)) ≤ length (now out)) ⌝ }
-    ensures { λ r. ⌜ Wrote (take (min 16 (run (plainByte k) (drop from (now (s .entry))))) (drop from (now (s .entry)))) r (now (out .entry)) (now (out .exit)) ⌝ }
-{
-    let mut i: usize = 0;
-    while i < s.len() - from {
-        if i == 16 {
-            return i;
-        }
-        let b = s[from + i];
-        if !is_plain(b, k) {
-            return i;
-        }
-        out[i] = b;
-        i += 1;
-    }
-    i
-}
-
-// The whole run.
-fn put_run(out: &mut [u8], s: &[u8], from: usize, k: Allowed) -> usize
-    requires { ⌜ (from ≤ length (now s)) × (run (plainByte k) (drop from (now s)) ≤ length (now out)) ⌝ }
-    ensures { λ r. ⌜ Wrote (take (run (plainByte k) (drop from (now (s .entry)))) (drop from (now (s .entry)))) r (now (out .entry)) (now (out .exit)) ⌝ }
-{
-    let n = put_few(out, s, from, k);
-    if n < 16 {
-        return n;
-    }
-    let i = from + n;
-    let e = block_end(s, i, k);
-    n + buffer::put_bytes(&mut out[n..], &s[i..e])
-}
-
-// What a quoted body stands for, up to its end, is written to the front of out.
-pub fn write_value(out: &mut [u8], s: &[u8], k: Allowed) -> usize
-    requires { ⌜ (length (now s) < 4294967296) × (length (body k (now s) .value) ≤ length (now out)) ⌝ }
-    ensures { λ r. ⌜ Wrote (body k (now (s .entry)) .value) r (now (out .entry)) (now (out .exit)) ⌝ }
-{
-    let end = s.len() - utf8::last_len(s);
-    let mut i = 0;
-    let mut at: usize = 0;
-    loop {
-        if scan::byte_at(s, i) == b'\\' {
-            let t = put_piece(&mut out[at..], s, i, end, k);
-            if t.next == 0 {
-                return at;
-            }
-            at += t.value;
-            i = t.next;
-            continue;
-        }
-        let n = put_run(&mut out[at..], s, i, k);
-        if n == 0 {
-            return at;
-        }
-        at += n;
-        i += n;
     }
 }
 

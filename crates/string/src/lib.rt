@@ -162,7 +162,7 @@ fn put_value(out: &mut [u8], text: &[u8], k: Kind, lit: StringLit) -> usize
             if n == 0 {
                 return 0;
             }
-            body::write_value(out, &text[from..], k.allowed())
+            body_value::write_value(out, &text[from..], k.allowed())
         }
         Hashes::Raw(h) => {
             let start = from + h as usize + 1;

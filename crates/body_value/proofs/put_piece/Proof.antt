@@ -1,4 +1,4 @@
--- `body::put_piece` meets its contract.
+-- `body_value::put_piece` meets its contract.
 -- Assumes nothing.
 use borrow.Author.Needs.{needs}
 use mathlib.Core.Path.{_≡_, sym, ap, _∙_}
@@ -9,9 +9,9 @@ use lib.ListN.{length}
 use Rattle.buffer.proofs.Laws.{nothing}
 use Rattle.escape.specs.Escape.{bytesOf}
 use Rattle.escape.specs.Code.{codedLen, codedValue}
 use Rattle.body.proofs.Strides as strides
-use Rattle.body.proofs.put_piece.Statement.{statement}
-use Rattle.body.proofs.put_piece.Tie as tie
+use Rattle.body_value.proofs.put_piece.Statement.{statement}
+use Rattle.body_value.proofs.put_piece.Tie as tie
 
 -- the call, at each place
 abbrev at-letter : tie.After-letter-at → tie.Start

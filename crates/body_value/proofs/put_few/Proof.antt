@@ -1,4 +1,4 @@
--- `body::put_few` meets its contract.
+-- `body_value::put_few` meets its contract.
 -- Assumes nothing.
 use borrow.Author.Needs.{needs}
 use borrow.Author.Tests.{not-true, not-false}
@@ -12,10 +12,10 @@ use Rattle.buffer.specs.Buffer.{Wrote}
 use Rattle.buffer.proofs.Laws as laws
 use Rattle.scan.specs.Run.{run}
 use Rattle.scan.proofs.Runs.{run-more, run-stop, run-end}
 use Rattle.body.specs.Step.{plainByte}
 use Rattle.body.proofs.Strides.{written-as}
-use Rattle.body.proofs.put_few.Statement.{statement}
-use Rattle.body.proofs.put_few.Tie as tie
+use Rattle.body_value.proofs.put_few.Statement.{statement}
+use Rattle.body_value.proofs.put_few.Tie as tie
 
 -- the first i bytes stand for themselves and are written, and the run goes on behind them
 abbrev Inv-loop : tie.InvT-loop

@@ -1,4 +1,4 @@
--- `body::put_run` meets its contract.
+-- `body_value::put_run` meets its contract.
 -- Assumes nothing.
 use borrow.Author.Needs.{needs}
 use mathlib.Core.Path.{_≡_, ap}
@@ -9,12 +9,12 @@ use lib.ListN.{length, take, drop, length-append, length-drop, length-take}
 use Rattle.buffer.proofs.Laws as laws
 use Rattle.scan.specs.Run.{run}
 use Rattle.scan.proofs.Runs.{run-le}
 use Rattle.body.specs.Step.{plainByte}
 use Rattle.body.proofs.Blocks.{few-count, few-all, few-rest}
 use Rattle.body.proofs.Strides.{written-as}
 use Rattle.body.proofs.Runs as runs
-use Rattle.body.proofs.put_run.Statement.{statement}
-use Rattle.body.proofs.put_run.Tie as tie
+use Rattle.body_value.proofs.put_run.Statement.{statement}
+use Rattle.body_value.proofs.put_run.Tie as tie
 
 -- the part that was written first
 abbrev entry : tie.After-put-few → tie.Start

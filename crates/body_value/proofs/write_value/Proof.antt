@@ -1,4 +1,4 @@
--- `body::write_value` meets its contract.
+-- `body_value::write_value` meets its contract.
 -- Assumes nothing.
 use borrow.Author.Needs.{needs}
 use mathlib.Core.Path.{_≡_, refl, sym, ap, _∙_, subst}
@@ -13,16 +13,16 @@ use Rattle.buffer.specs.Buffer.{Wrote}
 use Rattle.buffer.proofs.Laws as laws
 use Rattle.utf8.proofs.Cuts.{last-le}
 use Rattle.escape.specs.declared.Allowed.{Allowed}
 use Rattle.body.specs.Body.{body}
 use Rattle.body.specs.Step.{backslashOf, stepOf, plainByte}
 use Rattle.body.specs.Stride.{valueIn}
 use Rattle.body.proofs.Within.{step-in}
 use Rattle.body.proofs.Bodies as bodies
 use Rattle.body.proofs.Runs as runs
 use Rattle.body.proofs.Strides as strides
 use Rattle.body.proofs.Raws.{take-none}
-use Rattle.body.proofs.write_value.Statement.{statement}
-use Rattle.body.proofs.write_value.Tie as tie
+use Rattle.body_value.proofs.write_value.Statement.{statement}
+use Rattle.body_value.proofs.write_value.Tie as tie
 
 -- what is passed stands for v, which is written
 abbrev Inv-loop : tie.InvT-loop
