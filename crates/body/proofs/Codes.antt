@@ -18,11 +18,11 @@ use Rattle.utf8.specs.Cut.{tail, isBoundary, lastLen, front}
 use Rattle.utf8.proofs.Cuts.{front-length, front-drop}
 use Rattle.escape.specs.Allows.{byteEscapes, allowNul}
 use Rattle.escape.specs.Escape.{Escaped, value, bad, bytesOf, letterOf, xByte, xEscape, escapeBy, escapeOf}
-use Rattle.escape.specs.Code.{pieceCode, escapeCode, codedLen, codedValue}
+use Rattle.escape_code.specs.Code.{pieceCode, escapeCode, codedLen, codedValue}
 use Rattle.escape.specs.declared.Allowed.{Allowed}
 use Rattle.escape.specs.declared.Unescaped.the-variants.{Byte}
 use Rattle.escape.proofs.Escapes.{too-short}
-use Rattle.escape.proofs.Codes.{Coded, code-len, code-value, EscapeCoded, escape-coded}
+use Rattle.escape_code.proofs.Codes.{Coded, code-len, code-value, EscapeCoded, escape-coded}
 use Rattle.body.specs.Step.{Next, piece, stop, ofEscape, lineBreakOf, backslashOf, plainOf, stepOf}
 use Rattle.body.specs.Code.{nextCode, codeOf}
 use Rattle.body.proofs.Steps as steps

@@ -14,12 +14,12 @@ use Rattle.buffer.specs.Buffer.{Wrote}
 use Rattle.parse.specs.Sets.{blank}
 use Rattle.utf8.specs.Cut.{lastLen}
 use Rattle.escape.specs.Escape.{Escaped, bytesOf, Valid, letterOf, xEscape, uEscape, escapeOf}
-use Rattle.escape.specs.Code.{escapeCode, codedLen, codedValue}
+use Rattle.escape_code.specs.Code.{escapeCode, codedLen, codedValue}
 use Rattle.escape.specs.declared.Allowed.{Allowed}
 use Rattle.escape.specs.declared.Unescaped.{Unescaped}
 use Rattle.escape.specs.declared.Unescaped.the-variants.{Nothing, Byte}
 use Rattle.escape.proofs.Escapes as escapes
-use Rattle.escape.proofs.Codes.{code-some}
+use Rattle.escape_code.proofs.Codes.{code-some}
 use Rattle.body.specs.Step.{Next, piece, stop, ofEscape, backslashOf, plainByte, stepOf}
 use Rattle.body.specs.Code.{nextCode, codeOf, Stopped}
 use Rattle.body.specs.Stride.{nextAt, valueIn, letterAt, breakEnd, byLetter, xAt, uAt}

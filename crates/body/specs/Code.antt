@@ -5,7 +5,7 @@ use Prim.Native.Nat.{ℕ}
 use mathlib.Core.Bool.{cond}
 use mathlib.Core.List.{List, [], _∷_}
 use lib.Dec.{eqb}
-use Rattle.escape.specs.Code.{pieceCode}
+use Rattle.escape_code.specs.Code.{pieceCode}
 use Rattle.escape.specs.declared.Allowed.{Allowed}
 use Rattle.body.specs.Step.{Next, piece, stop, backslashOf}
 

@@ -9,7 +9,7 @@ use lib.ListN.{length, getD, take, drop}
 use Rattle.scan.specs.Run.{run}
 use Rattle.parse.specs.Sets.{blank}
 use Rattle.escape.specs.Escape.{Escaped, bytesOf, letterOf, xEscape, uEscape}
-use Rattle.escape.specs.Code.{escapeCode}
+use Rattle.escape_code.specs.Code.{escapeCode}
 use Rattle.escape.specs.declared.Allowed.{Allowed}
 use Rattle.body.specs.Step.{Next, piece, stop}
 

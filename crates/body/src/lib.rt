@@ -235,7 +235,7 @@ pub fn code_at(s: &[u8], at: usize, end: usize, k: Allowed) -> u64
     if end <= next {
         return 0;
     }
-    escape::code(&s[at..end], k)
+    escape_code::code(&s[at..end], k)
 }
 
 // The value of an escape of one letter, behind the backslash at an offset and before `end`; 0 where there is none.
@@ -274,7 +274,7 @@ pub fn x_at(s: &[u8], at: usize, end: usize, k: Allowed) -> u64
         return 0;
     }
     if s[next] == b'x' {
-        return escape::x_code(&s[at..end], k);
+        return escape_code::x_code(&s[at..end], k);
     }
     0
 }
@@ -289,7 +289,7 @@ pub fn u_at(s: &[u8], at: usize, end: usize, k: Allowed) -> u64
         return 0;
     }
     if s[next] == b'u' {
-        return escape::u_code(&s[at..end], k);
+        return escape_code::u_code(&s[at..end], k);
     }
     0
 }
@@ -317,8 +317,8 @@ fn stride_at(s: &[u8], at: usize, end: usize, k: Allowed) -> Stride
     }
     let u = u_at(s, at, end, k);
     if u != 0 {
-        let n = escape::value_len(escape::code_value(u));
-        let len = escape::code_len(u);
+        let n = escape::value_len(escape_code::code_value(u));
+        let len = escape_code::code_len(u);
         if len == 6 {
             return Stride {
                 next: at + 6,
@@ -336,8 +336,8 @@ fn stride_at(s: &[u8], at: usize, end: usize, k: Allowed) -> Stride
         return Stride { next: 0, value: 0 };
     }
     Stride {
-        next: at + escape::code_len(c),
-        value: escape::value_len(escape::code_value(c)),
+        next: at + escape_code::code_len(c),
+        value: escape::value_len(escape_code::code_value(c)),
     }
 }
 

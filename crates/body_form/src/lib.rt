@@ -234,8 +234,8 @@ pub fn body_len(s: &[u8], k: Allowed, style: Style) -> usize
             if c == 0 {
                 return n;
             }
-            n += value_len(escape::code_value(c), style);
-            i += escape::code_len(c);
+            n += value_len(escape_code::code_value(c), style);
+            i += escape_code::code_len(c);
             continue;
         }
         let e = body::plain_end(s, i, k);
@@ -267,7 +267,7 @@ fn put_piece(out: &mut [u8], s: &[u8], at: usize, end: usize, k: Allowed, style:
     if x != 0 {
         return Stride {
             next: at + 4,
-            value: put_value(out, escape::code_value(x), style),
+            value: put_value(out, escape_code::code_value(x), style),
         };
     }
     // what is left is by `u`, or `\0`, or refused
@@ -275,9 +275,9 @@ fn put_piece(out: &mut [u8], s: &[u8], at: usize, end: usize, k: Allowed, style:
     if c == 0 {
         return Stride { next: 0, value: 0 };
     }
-    let n = put_value(out, escape::code_value(c), style);
+    let n = put_value(out, escape_code::code_value(c), style);
     Stride {
-        next: at + escape::code_len(c),
+        next: at + escape_code::code_len(c),
         value: n,
     }
 }

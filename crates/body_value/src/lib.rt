@@ -31,13 +31,13 @@ fn put_piece(out: &mut [u8], s: &[u8], at: usize, end: usize, k: Allowed) -> Str
     if x != 0 {
         return Stride {
             next: at + 4,
-            value: escape::put_value(out, escape::code_value(x)),
+            value: escape::put_value(out, escape_code::code_value(x)),
         };
     }
     let u = body::u_at(s, at, end, k);
     if u != 0 {
-        let n = escape::put_value(out, escape::code_value(u));
-        let len = escape::code_len(u);
+        let n = escape::put_value(out, escape_code::code_value(u));
+        let len = escape_code::code_len(u);
         if len == 6 {
             return Stride {
                 next: at + 6,
@@ -55,8 +55,8 @@ fn put_piece(out: &mut [u8], s: &[u8], at: usize, end: usize, k: Allowed) -> Str
         return Stride { next: 0, value: 0 };
     }
     Stride {
-        next: at + escape::code_len(c),
-        value: escape::put_value(out, escape::code_value(c)),
+        next: at + escape_code::code_len(c),
+        value: escape::put_value(out, escape_code::code_value(c)),
     }
 }
 

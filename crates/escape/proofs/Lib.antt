@@ -3,5 +3,3 @@ pub mod Escapes
 pub mod Within
 pub mod Values
 pub mod Exact
-pub mod Braced
-pub mod Codes

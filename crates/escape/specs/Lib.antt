@@ -1,4 +1,3 @@
 pub mod Allows
 pub mod Escape
 pub mod Pieces
-pub mod Code

@@ -9,7 +9,6 @@ ghost use Prim.Native.Nat.{_+_, _≤_, _<_};
 ghost use lib.ListN.{length};
 ghost use Rattle.buffer.specs.Buffer.{Wrote};
 ghost use Rattle.escape.specs.Allows.{unicode, byteEscapes, allowNul};
-ghost use Rattle.escape.specs.Code.{pieceCode, escapeCode, codedLen, codedValue};
 ghost use Rattle.escape.specs.Escape.{bytesOf, Valid, escapedOf, letterOf, xByte, xEscape, hexOf, hexFrom, isScalar, uScalar, badStart, uInner, uEscape, escapeOf};
 
 // What a kind of literal allows: as text (chars and strings), as bytes, as a C string.
@@ -158,7 +157,7 @@ fn hex_digits(d: &[u8]) -> Digits
     Digits::Value(v)
 }
 
-fn is_scalar(v: u32) -> bool
+pub fn is_scalar(v: u32) -> bool
     ensures { λ r. ⌜ r ≡ isScalar v ⌝ }
 {
     if v < 0xD800 {
@@ -253,148 +252,6 @@ pub fn unescape(s: &[u8], k: Allowed) -> Escape
         return u_escape(s, k);
     }
     bad(ParseErrorKind::UnknownEscape, 2)
-}
-
-// A byte that n bytes stand for, as one number.
-fn byte_code(n: u64, b: u8) -> u64
-    requires { ⌜ n ≤ 4 ⌝ }
-    ensures { λ r. ⌜ r ≡ pieceCode n (Unescaped.Byte b) ⌝ }
-{
-    n * 4294967296 + 1 + b as u64
-}
-
-// An escape by `x` as one number, or 0 where it is refused.
-pub fn x_code(s: &[u8], k: Allowed) -> u64
-    ensures { λ r. ⌜ r ≡ escapeCode (xEscape k (now (s .entry))) ⌝ }
-{
-    if s.len() < 4 {
-        return 0;
-    }
-    let whole = utf8::is_boundary(s, 4);
-    if !whole {
-        return 0;
-    }
-    let a = parse::class_of(s[2]);
-    if 15 < a {
-        return 0;
-    }
-    let b = parse::class_of(s[3]);
-    if 15 < b {
-        return 0;
-    }
-    let v = b + 16 * a;
-    if 127 < v {
-        if !k.byte_escapes() {
-            return 0;
-        }
-    }
-    if v == 0 {
-        if !k.allow_nul() {
-            return 0;
-        }
-    }
-    byte_code(4, v)
-}
-
-// An escape of n bytes whose digits are worth v, as one number.
-fn scalar_code(v: u32, n: usize, k: Allowed) -> u64
-    requires { ⌜ n < 4294967296 ⌝ }
-    ensures { λ r. ⌜ r ≡ escapeCode (uScalar k n v) ⌝ }
-{
-    if bars(k.allow_nul(), v == 0) {
-        return 0;
-    }
-    if !is_scalar(v) {
-        return 0;
-    }
-    n as u64 * 4294967296 + 257 + v as u64
-}
-
-// The same by `u`.
-pub fn u_code(s: &[u8], k: Allowed) -> u64
-    requires { ⌜ length (now s) < 4294967296 ⌝ }
-    ensures { λ r. ⌜ r ≡ escapeCode (uEscape k (now (s .entry))) ⌝ }
-{
-    if !k.unicode() {
-        return 0;
-    }
-    if scan::byte_at(s, 2) != b'{' {
-        return 0;
-    }
-    let mut v: u32 = 0;
-    let mut n: u32 = 0;
-    let mut i = 3;
-    while i < s.len() {
-        let b = s[i];
-        i += 1;
-        let d = parse::class_of(b);
-        if d < 16 {
-            if n == 6 {
-                return 0;
-            }
-            v = 16 * v + d as u32;
-            n += 1;
-            continue;
-        }
-        if i == 4 {
-            return 0;
-        }
-        if b == b'}' {
-            return scalar_code(v, i, k);
-        }
-        if b != b'_' {
-            return 0;
-        }
-    }
-    0
-}
-
-// The escape at the front as one number, or 0 where it is refused.
-pub fn code(s: &[u8], k: Allowed) -> u64
-    requires { ⌜ length (now s) < 4294967296 ⌝ }
-    ensures { λ r. ⌜ r ≡ escapeCode (escapeOf k (now (s .entry))) ⌝ }
-{
-    if s.len() < 2 {
-        return 0;
-    }
-    let b = s[1];
-    let l = letter(b);
-    if l != 0 {
-        return byte_code(2, l);
-    }
-    if b == b'x' {
-        return x_code(s, k);
-    }
-    if b == b'u' {
-        return u_code(s, k);
-    }
-    if b == b'0' {
-        if k.allow_nul() {
-            return byte_code(2, 0);
-        }
-    }
-    0
-}
-
-// How many bytes a coded piece has.
-pub fn code_len(c: u64) -> usize
-    ensures { λ r. ⌜ r ≡ codedLen c ⌝ }
-{
-    (c / 4294967296) as usize
-}
-
-// What a coded piece stands for.
-pub fn code_value(c: u64) -> Unescaped
-    ensures { λ r. ⌜ r ≡ codedValue c ⌝ }
-{
-    let v = (c % 4294967296) as u32;
-    if v == 0 {
-        return Unescaped::Nothing;
-    }
-    if v < 257 {
-        return Unescaped::Byte((v - 1) as u8);
-    }
-    Unescaped::Unicode(v - 257)
 }
 
 // How many bytes a value has in a string.

@@ -7,7 +7,7 @@ use Prim.Native.Nat.{_+_, _<_}
 use native.Mathlib.Omega.{arith}
 use lib.ListN.{length}
 use Rattle.escape.specs.Escape.{bytesOf}
-use Rattle.escape.specs.Code.{codedLen, codedValue}
+use Rattle.escape_code.specs.Code.{codedLen, codedValue}
 use Rattle.body.proofs.Strides as strides
 use Rattle.body.proofs.stride_at.Statement.{statement}
 use Rattle.body.proofs.stride_at.Tie as tie

@@ -7,7 +7,7 @@ use Prim.Native.Nat.{ℕ, _≤_, _<_, _-_, _+_, _*_}
 use native.Mathlib.Omega.{arith}
 use lib.ListN.{length, getD, take, drop, length-append}
 use Rattle.utf8.proofs.Cuts.{last-le}
-use Rattle.escape.specs.Code.{codedLen, codedValue}
+use Rattle.escape_code.specs.Code.{codedLen, codedValue}
 use Rattle.escape.specs.Escape.{bytesOf, Valid}
 use Rattle.escape.specs.declared.Allowed.{Allowed}
 use Rattle.escape.specs.declared.Unescaped.{Unescaped}

@@ -7,7 +7,7 @@ use Prim.Native.Nat.{ℕ, _+_, _<_}
 use native.Mathlib.Omega.{arith}
 use lib.ListN.{length, drop}
 use Rattle.buffer.proofs.Laws.{nothing}
-use Rattle.escape.specs.Code.{codedLen}
+use Rattle.escape_code.specs.Code.{codedLen}
 use Rattle.body.specs.Step.{backslashOf}
 use Rattle.body.specs.Stride.{valueIn}
 use Rattle.body.proofs.Strides as strides

@@ -8,7 +8,7 @@ use native.Mathlib.Omega.{arith}
 use lib.ListN.{length}
 use Rattle.buffer.proofs.Laws.{nothing}
 use Rattle.escape.specs.Escape.{bytesOf}
-use Rattle.escape.specs.Code.{codedLen, codedValue}
+use Rattle.escape_code.specs.Code.{codedLen, codedValue}
 use Rattle.body.proofs.Strides as strides
 use Rattle.body_value.proofs.put_piece.Statement.{statement}
 use Rattle.body_value.proofs.put_piece.Tie as tie

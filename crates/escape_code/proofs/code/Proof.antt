@@ -1,14 +1,14 @@
--- `escape::code` meets its contract.
+-- `escape_code::code` meets its contract.
 -- Assumes nothing.
 use mathlib.Core.Path.{_≡_, sym, ap, _∙_}
 use native.Mathlib.Omega.{arith}
 use borrow.Author.Needs.{needs}
 use lib.ListN.{getD}
-use Rattle.escape.specs.Code.{escapeCode}
+use Rattle.escape_code.specs.Code.{escapeCode}
 use Rattle.escape.specs.Escape.{letterOf}
 use Rattle.escape.proofs.Escapes as laws
-use Rattle.escape.proofs.code.Statement.{statement}
-use Rattle.escape.proofs.code.Tie as tie
+use Rattle.escape_code.proofs.code.Statement.{statement}
+use Rattle.escape_code.proofs.code.Tie as tie
 
 no-letter : (c : tie.Else2) → letterOf (getD (c .before .before .before .before .before .args .s .now) 1 0) ≡ 0
 no-letter c = sym (c .before .letter .ensures) ∙ c .if2 .left

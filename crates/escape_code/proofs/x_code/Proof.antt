@@ -1,4 +1,4 @@
--- `escape::x_code` meets its contract.
+-- `escape_code::x_code` meets its contract.
 -- Assumes nothing.
 use mathlib.Core.Path.{_≡_, sym, ap, _∙_}
 use mathlib.Core.Bool.{true, false, not, _&&_, and-false}
@@ -12,13 +12,13 @@ use lib.ListN.{getD}
 use Rattle.parse.specs.Sets.{hexDigitOf}
 use Rattle.parse.specs.declared.HexDigit.the-variants.{Value}
 use Rattle.utf8.specs.Cut.{isBoundary}
 use Rattle.escape.specs.Allows.{byteEscapes, allowNul}
-use Rattle.escape.specs.Code.{escapeCode}
+use Rattle.escape_code.specs.Code.{escapeCode}
 use Rattle.escape.specs.Escape.{xByte, xEscape}
 use Rattle.escape.proofs.Hexes.{hex-value, no-value}
 use Rattle.escape.proofs.Escapes as laws
-use Rattle.escape.proofs.x_code.Statement.{statement}
-use Rattle.escape.proofs.x_code.Tie as tie
+use Rattle.escape_code.proofs.x_code.Statement.{statement}
+use Rattle.escape_code.proofs.x_code.Tie as tie
 
 there : (c : tie.Else2) → isBoundary (c .before .before .before .before .args .s .now) 4 ≡ true
 there c = sym (c .before .is-boundary .ensures) ∙ not-false _ (c .if2 .left)

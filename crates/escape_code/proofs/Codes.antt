@@ -8,13 +8,13 @@ use borrow.Author.Tests.{lt-ltb, le-ltb, ne-eqb}
 use lib.ListN.{length}
 use Rattle.utf8.specs.Utf8.{Scalar}
 use Rattle.utf8.proofs.Laws.{scalar-lt}
 use Rattle.escape.specs.declared.Allowed.{Allowed}
 use Rattle.escape.specs.declared.Unescaped.{Unescaped}
 use Rattle.escape.specs.declared.Unescaped.the-variants.{Nothing, Byte, Unicode}
-use Rattle.escape.specs.Code.{valueCode, pieceCode, codedLen, valueBy, codedValue}
+use Rattle.escape_code.specs.Code.{valueCode, pieceCode, codedLen, valueBy, codedValue}
 use Rattle.escape.specs.Escape.{Escaped, value, bad, escapeOf}
 use Rattle.escape.proofs.Within.{EscapeIn, escape-in}
 use Rattle.escape.proofs.Values.{Unwraps, EscapeUnwraps, escape-unwraps}
 
 -- ---- any piece
 

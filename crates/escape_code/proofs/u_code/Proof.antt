@@ -1,4 +1,4 @@
--- `escape::u_code` meets its contract.
+-- `escape_code::u_code` meets its contract.
 -- Assumes nothing.
 use mathlib.Core.Path.{_≡_, sym, ap, _∙_}
 use mathlib.Core.Bool.{true, false}
@@ -8,14 +8,14 @@ use borrow.Author.Needs.{needs}
 use borrow.Author.Tests.{not-true, not-false}
 use lib.ListN.{length, getD, drop}
 use Rattle.parse.specs.Class.{classOf}
 use Rattle.escape.specs.Allows.{unicode}
-use Rattle.escape.specs.Code.{escapeCode}
+use Rattle.escape_code.specs.Code.{escapeCode}
 use Rattle.escape.specs.Escape.{uEscape}
 use Rattle.escape.proofs.Hexes.{small, longer}
 use Rattle.escape.proofs.Escapes as laws
-use Rattle.escape.proofs.Braced as braced
-use Rattle.escape.proofs.u_code.Statement.{statement}
-use Rattle.escape.proofs.u_code.Tie as tie
+use Rattle.escape_code.proofs.Braced as braced
+use Rattle.escape_code.proofs.u_code.Statement.{statement}
+use Rattle.escape_code.proofs.u_code.Tie as tie
 
 -- what is left is worth the code of the whole
 abbrev Inv-loop : tie.InvT-loop

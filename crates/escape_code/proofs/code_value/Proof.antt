@@ -1,10 +1,10 @@
--- `escape::code_value` meets its contract.
+-- `escape_code::code_value` meets its contract.
 -- Assumes nothing.
 use borrow.Author.Needs.{needs}
 use borrow.Author.Tests.{lt-ltb, le-ltb, ne-eqb}
-use Rattle.escape.specs.Code.{valueBy, codedValue}
-use Rattle.escape.proofs.code_value.Statement.{statement}
-use Rattle.escape.proofs.code_value.Tie as tie
+use Rattle.escape_code.specs.Code.{valueBy, codedValue}
+use Rattle.escape_code.proofs.code_value.Statement.{statement}
+use Rattle.escape_code.proofs.code_value.Tie as tie
 
 cast-v : tie.Need-cast-v
 cast-v c = search needs

@@ -1,4 +1,4 @@
--- `escape::scalar_code` meets its contract.
+-- `escape_code::scalar_code` meets its contract.
 -- Assumes nothing.
 use mathlib.Core.Path.{_≡_, sym, _∙_}
 use mathlib.Core.Bool.{true, not, _&&_}
@@ -7,12 +7,12 @@ use borrow.Author.Needs.{needs}
 use borrow.Author.Tests.{not-true, not-false}
 use lib.Dec.{eqb}
 use Rattle.utf8.proofs.Laws.{scalar-lt}
 use Rattle.escape.specs.Allows.{allowNul}
-use Rattle.escape.specs.Code.{pieceCode}
+use Rattle.escape_code.specs.Code.{pieceCode}
 use Rattle.escape.specs.Escape.{isScalar, uScalar}
 use Rattle.escape.proofs.Within.{scalar-right}
-use Rattle.escape.proofs.scalar_code.Statement.{statement}
-use Rattle.escape.proofs.scalar_code.Tie as tie
+use Rattle.escape_code.proofs.scalar_code.Statement.{statement}
+use Rattle.escape_code.proofs.scalar_code.Tie as tie
 
 nul : (c : tie.After-bars) → let a = c .before .before .args in c .bars .result ≡ (not (allowNul (a .k)) && eqb (a .v) 0)
 nul c = rw (← c .before .allow-nul .ensures) (c .bars .ensures)

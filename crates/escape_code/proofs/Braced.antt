@@ -15,12 +15,12 @@ use Rattle.scan.specs.Sets.{except}
 use Rattle.scan.proofs.Cases.{cond-in, cond-eq, cond-lt}
 use Rattle.scan.proofs.Runs.{run-le}
 use Rattle.parse.specs.Class.{classOf}
 use Rattle.escape.specs.Allows.{unicode}
 use Rattle.escape.specs.declared.Allowed.{Allowed}
-use Rattle.escape.specs.Code.{escapeCode}
+use Rattle.escape_code.specs.Code.{escapeCode}
 use Rattle.escape.specs.Escape.{Hex, hexFrom, uScalar, uHex, badStart, uInner, uEscape}
 use Rattle.escape.proofs.Hexes.{not-underscore, not-brace}
 use Rattle.escape.proofs.Escapes as laws
 
 -- where nothing is accepted either way
 none : (t : Bool) → _≡_ {A = ℕ} 0 (cond t 0 0)

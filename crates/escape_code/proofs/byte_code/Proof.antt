@@ -1,10 +1,10 @@
--- `escape::byte_code` meets its contract.
+-- `escape_code::byte_code` meets its contract.
 -- Assumes nothing.
 use native.Mathlib.Omega.{arith}
 use borrow.Author.Needs.{needs}
-use Rattle.escape.specs.Code.{pieceCode}
-use Rattle.escape.proofs.byte_code.Statement.{statement}
-use Rattle.escape.proofs.byte_code.Tie as tie
+use Rattle.escape_code.specs.Code.{pieceCode}
+use Rattle.escape_code.proofs.byte_code.Statement.{statement}
+use Rattle.escape_code.proofs.byte_code.Tie as tie
 
 mul-result : tie.Need-mul-result
 mul-result c = search needs

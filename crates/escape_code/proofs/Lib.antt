@@ -1,0 +1,2 @@
+pub mod Braced
+pub mod Codes
