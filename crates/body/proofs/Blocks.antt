@@ -10,7 +10,7 @@ use lib.ListN.{length, getD, take, drop, length-take}
 use lib.Seq.{drop-drop, take-add}
 use Rattle.scan.specs.Run.{run}
 use Rattle.scan.proofs.Cases.{cond-lt}
-use Rattle.scan.proofs.Runs.{run-le, run-more, run-stop, run-end}
+use Rattle.scan.proofs.Runs.{run-le, run-more, run-stop, run-end, run-past}
 
 -- ---- in a block of n bytes
 
@@ -54,15 +54,6 @@ run-take p (suc m) (b ∷ s) = by-test (p b) (run-take p m s)
     by-test : (t : Bool) → run p (take m s) ≡ min m (run p s) → cond t (suc (run p (take m s))) 0 ≡ min (suc m) (cond t (suc (run p s)) 0)
     by-test true f = omega arith
     by-test false f = omega arith
-
-pub run-past : (p : ℕ → Bool) (m : ℕ) (s : List ℕ) → m ≤ run p s → run p s ≡ m + run p (drop m s)
-run-past p zero s h = omega arith
-run-past p (suc m) [] h = absurd (omega arith)
-run-past p (suc m) (b ∷ s) h = by-test (p b) (run-past p m s) h
-  where
-    by-test : (t : Bool) → (m ≤ run p s → run p s ≡ m + run p (drop m s)) → suc m ≤ cond t (suc (run p s)) 0 → cond t (suc (run p s)) 0 ≡ suc m + run p (drop m s)
-    by-test true f g = omega (arith, f (omega arith))
-    by-test false f g = absurd (omega arith)
 
 -- m is the run in the block of n bytes at i
 module _ (p : ℕ → Bool) (s : List ℕ) (i n m : ℕ) (is : m ≡ run p (take (i + n - i) (drop i s))) where

@@ -3,8 +3,10 @@ use err::ParseErrorKind;
 ghost use mathlib.Core.Path.{_≡_};
 ghost use mathlib.Core.Bool.{cond};
 ghost use Prim.Native.Nat.{_+_, _≤_, _<_};
+ghost use lib.Dec.{leb};
 ghost use lib.ListN.{length, drop};
 ghost use Rattle.scan.specs.Run.{run, outs};
+ghost use Rattle.scan.specs.Sets.{only};
 ghost use Rattle.parse.specs.Class.{classOf, Classes};
 ghost use Rattle.parse.specs.Sets.{digit, suffixRest, blank, decDigit, inSet, inClass, hexDigitOf, startsE};
 ghost use Rattle.parse.specs.Suffix.{suffixFault, suffixStart, faultOf};
@@ -366,11 +368,33 @@ pub fn run_len(s: &[u8], set: ClassSet) -> usize
     i
 }
 
+// Four spaces at the front, the most usual indent, are passed at once: 4 where they stand there, else 0.
+fn indent_len(s: &[u8]) -> usize
+    ensures { λ r. ⌜ r ≡ cond (leb 4 (run (only 32) (now (s .entry)))) 4 0 ⌝ }
+{
+    if s.len() < 4 {
+        return 0;
+    }
+    if s[0] != b' ' {
+        return 0;
+    }
+    if s[1] != b' ' {
+        return 0;
+    }
+    if s[2] != b' ' {
+        return 0;
+    }
+    if s[3] != b' ' {
+        return 0;
+    }
+    4
+}
+
 // How many spaces, tabs and LFs stand at the front.
 pub fn blanks_len(s: &[u8]) -> usize
     ensures { λ r. ⌜ r ≡ run blank (now (s .entry)) ⌝ }
 {
-    let mut i = 0;
+    let mut i = indent_len(s);
     while i < s.len() {
         if !is_blank(s[i]) {
             return i;
@@ -585,8 +609,11 @@ pub enum Suffix {
 fn starts_suffix(b: u8) -> bool
     ensures { λ r. ⌜ r ≡ suffixStart b ⌝ }
 {
-    if 127 < b {
-        return true;
+    if b'a' <= b {
+        if b <= b'z' {
+            return true;
+        }
+        return 127 < b;
     }
     if b == b'_' {
         return true;
@@ -594,13 +621,7 @@ fn starts_suffix(b: u8) -> bool
     if b < b'A' {
         return false;
     }
-    if b <= b'Z' {
-        return true;
-    }
-    if b < b'a' {
-        return false;
-    }
-    b <= b'z'
+    b <= b'Z'
 }
 
 // What may follow in a suffix: such a byte, or a decimal digit.

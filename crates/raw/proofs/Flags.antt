@@ -73,7 +73,7 @@ module _ (k : Allowed) (h m : ℕ) (s : List ℕ) where
   -- it goes on by n bytes
   pub scan-past : (i n : ℕ) → n ≤ rawRun k h m (drop i s) → i + rawRun k h m (drop i s) ≡ i + n + rawRun k h m (drop (i + n) s)
   scan-past i n l =
-      let p = blocks.run-past (only 1) n (drop i all) (omega (arith, rest i)) in
+      let p = runs.run-past (only 1) n (drop i all) (omega (arith, rest i)) in
       omega (arith, rest i, rest (i + n), rw drop-drop at p)
 
   module _ (i : ℕ) (l : i < length s) where
