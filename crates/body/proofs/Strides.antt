@@ -13,16 +13,17 @@ use Rattle.scan.specs.Run.{run, Stops}
 use Rattle.buffer.specs.Buffer.{Wrote}
 use Rattle.parse.specs.Sets.{blank}
 use Rattle.utf8.specs.Cut.{lastLen}
-use Rattle.escape.specs.Escape.{Escaped, bytesOf, Valid, letterOf, xEscape, uEscape, escapeOf}
-use Rattle.escape_code.specs.Code.{escapeCode, codedLen, codedValue}
+use Rattle.escape.specs.Escape.{bytesOf, Valid, letterOf, escapeOf}
+use Rattle.escape_code.specs.Code.{codedLen, codedValue}
+use Rattle.escape_code.specs.At.{letterAt, xAt, uAt}
 use Rattle.escape.specs.declared.Allowed.{Allowed}
 use Rattle.escape.specs.declared.Unescaped.{Unescaped}
 use Rattle.escape.specs.declared.Unescaped.the-variants.{Nothing, Byte}
-use Rattle.escape.proofs.Escapes as escapes
 use Rattle.escape_code.proofs.Codes.{code-some}
+use Rattle.escape_code.proofs.At.{letter-escape, x-escape, u-escape}
 use Rattle.body.specs.Step.{Next, piece, stop, ofEscape, backslashOf, plainByte, stepOf}
 use Rattle.body.specs.Code.{nextCode, codeOf, Stopped}
-use Rattle.body.specs.Stride.{nextAt, valueIn, letterAt, breakEnd, byLetter, xAt, uAt}
+use Rattle.body.specs.Stride.{nextAt, valueIn, breakEnd}
 use Rattle.body.proofs.Steps as steps
 use Rattle.body.proofs.Within.{NextIn, inside, step-in}
 use Rattle.body.proofs.Bodies as bodies
@@ -49,19 +50,6 @@ module _ {k : Allowed} {s : List ℕ} {i c t : ℕ} (h : Coded k s i c t) {u : U
 
   pub coded-fits : (size : List ℕ → ℕ) (m : ℕ) → size (valueIn (backslashOf k (drop i s))) ≤ m → Valid u × (size (bytesOf u) ≤ m)
   coded-fits size m l = (rw is (h .valid), rw coded-value l)
-
--- what the code of an escape by a letter tells
-by-letter : (b : ℕ) (of : List ℕ → Escaped) (s : List ℕ) (i end c : ℕ) → c ≡ byLetter b of s i end → (c ≡ 0 → ⊥)
-    → (i + 1 < end) × (getD s (i + 1) 0 ≡ b) × (c ≡ escapeCode (of (take (end - i) (drop i s))))
-unfolding byLetter
-by-letter b of s i end c is z = by-test (ltb (i + 1) end) (eqb (getD s (i + 1) 0) b) refl refl is
-  where
-    by-test : (t u : Bool) → ltb (i + 1) end ≡ t → eqb (getD s (i + 1) 0) b ≡ u
-        → c ≡ cond t (cond u (escapeCode (of (take (end - i) (drop i s)))) 0) 0
-        → (i + 1 < end) × (getD s (i + 1) 0 ≡ b) × (c ≡ escapeCode (of (take (end - i) (drop i s))))
-    by-test true true p q h = (ltb-true _ _ p, eqb-true _ _ q, h)
-    by-test true false p q h = absurd (z h)
-    by-test false u p q h = absurd (z h)
 
 module _ (k : Allowed) (s : List ℕ) (i : ℕ) (e : getD s i 0 ≡ 92) where
   pub at-in : i < length s
@@ -111,56 +99,33 @@ module _ (k : Allowed) (s : List ℕ) (i : ℕ) (e : getD s i 0 ≡ 92) where
 
   -- an escape, which sees what stands before `end`
   module _ (end : ℕ) (at-end : end ≡ length s - lastLen s) where
-    seen-two : i + 1 < end → (2 ≤ length (take (end - i) (drop i s))) × (getD (take (end - i) (drop i s)) 1 0 ≡ getD s (i + 1) 0)
-    seen-two h = (
-      omega (arith, length-take (end - i) (drop i s), length-drop i s),
-      getD-take (end - i) (drop i s) 1 0 (omega arith) ∙ getD-drop i s 1 0,
-    )
+    within : end ≤ length s
+    within = omega arith
 
     -- of one letter
     pub letter-arm : (l : ℕ) → l ≡ letterAt s i end → (l ≡ 0 → ⊥) → Arm k s i (i + 2) (l ∷ [])
-    unfolding letterAt letterOf
-    letter-arm l is z = by-test (ltb (i + 1) end) refl is
-      where
-        by-test : (t : Bool) → ltb (i + 1) end ≡ t → l ≡ cond t (letterOf (getD s (i + 1) 0)) 0 → Arm k s i (i + 2) (l ∷ [])
-        by-test true p h =
-            let two = seen-two (ltb-true _ _ p) in
-            let not-break : getD s (i + 1) 0 ≡ 10 → ⊥ = λ x. z (h ∙ ap letterOf x) in
-            is-piece 2 (Byte l)
-            (sym (steps.is-escape k (drop i s) (codes.other k s i at-in e not-break end at-end))
-            ∙ ap (λ (x : List ℕ). ofEscape (escapeOf k x)) (codes.seen k s i at-in e not-break end at-end)
-            ∙ ap ofEscape (sym (escapes.one-letter k _ (two .0) l (h ∙ ap letterOf (sym (two .1))) z)))
-        by-test false p h = absurd (z h)
+    unfolding letterOf
+    letter-arm l is z =
+        let t = letter-escape k s i end within l is z in
+        let not-break : getD s (i + 1) 0 ≡ 10 → ⊥ = λ x. z (t .0 ∙ ap letterOf x) in
+        is-piece 2 (Byte l)
+        (sym (steps.is-escape k (drop i s) (codes.other k s i at-in e not-break end at-end))
+        ∙ ap (λ (x : List ℕ). ofEscape (escapeOf k x)) (codes.seen k s i at-in e not-break end at-end)
+        ∙ ap ofEscape (sym (t .1)))
 
     -- by `x`
-    x-code : (c : ℕ) → c ≡ xAt k s i end → (c ≡ 0 → ⊥) → (c ≡ codeOf k (drop i s)) × (getD s (i + 1) 0 ≡ 120)
-    unfolding letterOf
-    x-code c is z =
-        let t = by-letter 120 (xEscape k) s i end c is z in
-        let two = seen-two (t .0) in
-        let x = two .1 ∙ t .1 in (
-          codes.at-escape k s i at-in e (λ g. omega (arith, t .1)) end at-end c
-              (t .2 ∙ ap escapeCode (escapes.is-x k _ (two .0) (ap letterOf x) (λ g. omega arith) x)),
-          t .1,
-        )
-
     pub x-arm : (c : ℕ) → c ≡ xAt k s i end → (c ≡ 0 → ⊥) → Coded k s i c (i + 4) × (length (bytesOf (codedValue c)) ≡ 1)
     x-arm c is z =
-        let x = x-code c is z in
-        let four = codes.code-x k s i c (x .0) z (x .1) in
-        (rw (four .0) at (code-arm c (x .0) z), four .1)
+        let t = x-escape k s i end within c is z in
+        let is-code = codes.at-escape k s i at-in e (λ g. omega (arith, t .0)) end at-end c (t .1) in
+        let four = codes.code-x k s i c is-code z (t .0) in
+        (rw (four .0) at (code-arm c is-code z), four .1)
 
     -- by `u`
     pub u-arm : (c : ℕ) → c ≡ uAt k s i end → (c ≡ 0 → ⊥) → Coded k s i c (i + codedLen c)
-    unfolding letterOf
     u-arm c is z =
-        let t = by-letter 117 (uEscape k) s i end c is z in
-        let two = seen-two (t .0) in
-        let u = two .1 ∙ t .1 in
-        code-arm c
-        (codes.at-escape k s i at-in e (λ g. omega (arith, t .1)) end at-end c
-        (t .2 ∙ ap escapeCode (escapes.is-u k _ (two .0) (ap letterOf u) (λ g. omega arith) (λ g. omega arith) u)))
-        z
+        let t = u-escape k s i end within c is z in
+        code-arm c (codes.at-escape k s i at-in e (λ g. omega (arith, t .0)) end at-end c (t .1)) z
 
 -- ---- a loop that stands at a backslash
 

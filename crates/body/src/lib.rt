@@ -17,7 +17,7 @@ ghost use Rattle.scan.specs.Run.{run};
 ghost use Rattle.utf8.specs.Cut.{lastLen};
 ghost use Rattle.body.specs.Code.{codeOf, Stopped};
 ghost use Rattle.body.specs.Step.{stop, endOf, nextOf, lineBreakOf, backslashOf, plainOf, plainByte, stepOf};
-ghost use Rattle.body.specs.Stride.{letterAt, breakEnd, xAt, uAt, nextAt, valueIn};
+ghost use Rattle.body.specs.Stride.{breakEnd, nextAt, valueIn};
 ghost use Rattle.body.specs.Body.{body, Measures, Fitting};
 ghost use Rattle.body.specs.Quote.{quoteOf, closing, suffixed, afterEnd, stringOf};
 
@@ -238,18 +238,6 @@ pub fn code_at(s: &[u8], at: usize, end: usize, k: Allowed) -> u64
     escape_code::code(&s[at..end], k)
 }
 
-// The value of an escape of one letter, behind the backslash at an offset and before `end`; 0 where there is none.
-pub fn letter_at(s: &[u8], at: usize, end: usize) -> u8
-    requires { ⌜ (at < length (now s)) × (end ≤ length (now s)) ⌝ }
-    ensures { λ r. ⌜ r ≡ letterAt (now (s .entry)) at end ⌝ }
-{
-    let next = at + 1;
-    if next < end {
-        return escape::letter(s[next]);
-    }
-    0
-}
-
 // Where the blanks behind a dropped line break end; 0 where no LF stands behind the backslash, or where the text ends there.
 pub fn break_end(s: &[u8], at: usize) -> usize
     requires { ⌜ at < length (now s) ⌝ }
@@ -264,42 +252,12 @@ pub fn break_end(s: &[u8], at: usize) -> usize
     if e == s.len() { 0 } else { e }
 }
 
-// The code of an escape by `x`; 0 where there is none.
-pub fn x_at(s: &[u8], at: usize, end: usize, k: Allowed) -> u64
-    requires { ⌜ (at < length (now s)) × (end ≤ length (now s)) ⌝ }
-    ensures { λ r. ⌜ r ≡ xAt k (now (s .entry)) at end ⌝ }
-{
-    let next = at + 1;
-    if end <= next {
-        return 0;
-    }
-    if s[next] == b'x' {
-        return escape_code::x_code(&s[at..end], k);
-    }
-    0
-}
-
-// The same by `u`.
-pub fn u_at(s: &[u8], at: usize, end: usize, k: Allowed) -> u64
-    requires { ⌜ (at < length (now s)) × ((length (now s) < 4294967296) × (end ≤ length (now s))) ⌝ }
-    ensures { λ r. ⌜ r ≡ uAt k (now (s .entry)) at end ⌝ }
-{
-    let next = at + 1;
-    if end <= next {
-        return 0;
-    }
-    if s[next] == b'u' {
-        return escape_code::u_code(&s[at..end], k);
-    }
-    0
-}
-
 // The piece that the backslash at an offset starts. Where its length is a constant, the next step need not wait for what was read.
 fn stride_at(s: &[u8], at: usize, end: usize, k: Allowed) -> Stride
     requires { ⌜ (getD (now s) at 0 ≡ 92) × ((length (now s) < 4294967296) × (end ≡ length (now s) - lastLen (now s))) ⌝ }
     ensures { λ r. ⌜ (r .next ≡ nextAt at (backslashOf k (drop at (now (s .entry))))) × (r .value ≡ length (valueIn (backslashOf k (drop at (now (s .entry)))))) ⌝ }
 {
-    if letter_at(s, at, end) != 0 {
+    if escape_code::letter_at(s, at, end) != 0 {
         return Stride {
             next: at + 2,
             value: 1,
@@ -309,13 +267,13 @@ fn stride_at(s: &[u8], at: usize, end: usize, k: Allowed) -> Stride
     if e != 0 {
         return Stride { next: e, value: 0 };
     }
-    if x_at(s, at, end, k) != 0 {
+    if escape_code::x_at(s, at, end, k) != 0 {
         return Stride {
             next: at + 4,
             value: 1,
         };
     }
-    let u = u_at(s, at, end, k);
+    let u = escape_code::u_at(s, at, end, k);
     if u != 0 {
         let n = escape::value_len(escape_code::code_value(u));
         let len = escape_code::code_len(u);

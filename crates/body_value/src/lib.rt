@@ -16,7 +16,7 @@ fn put_piece(out: &mut [u8], s: &[u8], at: usize, end: usize, k: Allowed) -> Str
     requires { ⌜ (getD (now s) at 0 ≡ 92) × ((length (now s) < 4294967296) × (end ≡ length (now s) - lastLen (now s))) × (length (valueIn (backslashOf k (drop at (now s)))) ≤ length (now out)) ⌝ }
     ensures { λ r. ⌜ (r .next ≡ nextAt at (backslashOf k (drop at (now (s .entry))))) × Wrote (valueIn (backslashOf k (drop at (now (s .entry))))) (r .value) (now (out .entry)) (now (out .exit)) ⌝ }
 {
-    let l = body::letter_at(s, at, end);
+    let l = escape_code::letter_at(s, at, end);
     if l != 0 {
         return Stride {
             next: at + 2,
@@ -27,14 +27,14 @@ fn put_piece(out: &mut [u8], s: &[u8], at: usize, end: usize, k: Allowed) -> Str
     if e != 0 {
         return Stride { next: e, value: 0 };
     }
-    let x = body::x_at(s, at, end, k);
+    let x = escape_code::x_at(s, at, end, k);
     if x != 0 {
         return Stride {
             next: at + 4,
             value: escape::put_value(out, escape_code::code_value(x)),
         };
     }
-    let u = body::u_at(s, at, end, k);
+    let u = escape_code::u_at(s, at, end, k);
     if u != 0 {
         let n = escape::put_value(out, escape_code::code_value(u));
         let len = escape_code::code_len(u);

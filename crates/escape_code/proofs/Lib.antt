@@ -1,2 +1,3 @@
 pub mod Braced
 pub mod Codes
+pub mod At

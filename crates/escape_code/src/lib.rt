@@ -6,6 +6,7 @@ ghost use Prim.Native.Nat.{_≤_, _<_};
 ghost use lib.ListN.{length};
 ghost use Rattle.escape.specs.Escape.{xEscape, uScalar, uEscape, escapeOf};
 ghost use Rattle.escape_code.specs.Code.{pieceCode, escapeCode, codedLen, codedValue};
+ghost use Rattle.escape_code.specs.At.{letterAt, xAt, uAt};
 
 // A byte that n bytes stand for, as one number.
 fn byte_code(n: u64, b: u8) -> u64
@@ -147,4 +148,48 @@ pub fn code_value(c: u64) -> Unescaped
         return Unescaped::Byte((v - 1) as u8);
     }
     Unescaped::Unicode(v - 257)
+}
+
+// ---- behind the backslash at an offset
+
+// The value of an escape of one letter, behind the backslash at an offset and before `end`; 0 where there is none.
+pub fn letter_at(s: &[u8], at: usize, end: usize) -> u8
+    requires { ⌜ (at < length (now s)) × (end ≤ length (now s)) ⌝ }
+    ensures { λ r. ⌜ r ≡ letterAt (now (s .entry)) at end ⌝ }
+{
+    let next = at + 1;
+    if next < end {
+        return escape::letter(s[next]);
+    }
+    0
+}
+
+// The code of an escape by `x`; 0 where there is none.
+pub fn x_at(s: &[u8], at: usize, end: usize, k: Allowed) -> u64
+    requires { ⌜ (at < length (now s)) × (end ≤ length (now s)) ⌝ }
+    ensures { λ r. ⌜ r ≡ xAt k (now (s .entry)) at end ⌝ }
+{
+    let next = at + 1;
+    if end <= next {
+        return 0;
+    }
+    if s[next] == b'x' {
+        return x_code(&s[at..end], k);
+    }
+    0
+}
+
+// The same by `u`.
+pub fn u_at(s: &[u8], at: usize, end: usize, k: Allowed) -> u64
+    requires { ⌜ (at < length (now s)) × ((length (now s) < 4294967296) × (end ≤ length (now s))) ⌝ }
+    ensures { λ r. ⌜ r ≡ uAt k (now (s .entry)) at end ⌝ }
+{
+    let next = at + 1;
+    if end <= next {
+        return 0;
+    }
+    if s[next] == b'u' {
+        return u_code(&s[at..end], k);
+    }
+    0
 }

@@ -1,11 +1,11 @@
--- `body::letter_at` meets its contract.
+-- `escape_code::letter_at` meets its contract.
 -- Assumes nothing.
 use borrow.Author.Needs.{needs}
 use borrow.Author.Tests.{lt-ltb, le-ltb}
 use mathlib.Core.Path.{_∙_}
-use Rattle.body.specs.Stride.{letterAt}
-use Rattle.body.proofs.letter_at.Statement.{statement}
-use Rattle.body.proofs.letter_at.Tie as tie
+use Rattle.escape_code.specs.At.{letterAt}
+use Rattle.escape_code.proofs.letter_at.Statement.{statement}
+use Rattle.escape_code.proofs.letter_at.Tie as tie
 
 add-next : tie.Need-add-next
 add-next c = search needs

@@ -1,11 +1,11 @@
--- `body::u_at` meets its contract.
+-- `escape_code::u_at` meets its contract.
 -- Assumes nothing.
 use borrow.Author.Needs.{needs}
 use borrow.Author.Tests.{lt-ltb, le-ltb, eq-eqb, ne-eqb}
 use mathlib.Core.Path.{_∙_}
-use Rattle.body.specs.Stride.{byLetter}
-use Rattle.body.proofs.u_at.Statement.{statement}
-use Rattle.body.proofs.u_at.Tie as tie
+use Rattle.escape_code.specs.At.{byLetter}
+use Rattle.escape_code.proofs.u_at.Statement.{statement}
+use Rattle.escape_code.proofs.u_at.Tie as tie
 
 add-next : tie.Need-add-next
 add-next c = search needs
