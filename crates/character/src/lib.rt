@@ -221,11 +221,19 @@ fn scalar(u: Unescaped) -> u32
     }
 }
 
-// An escape, which sees the text to its end.
+// An escape, which sees the text to its end: one letter or by `x`, which come as numbers, or any other.
 fn escaped(text: &[u8], at: usize, q: Quote) -> Inner
     requires { ⌜ at < length (now text) ⌝ }
     ensures { λ r. ⌜ innerOf r ≡ escapedAt q (now (text .entry)) at ⌝ }
 {
+    let l = escape_code::letter_at(text, at, text.len());
+    if l != 0 {
+        return Inner::Value(l as u32, 2);
+    }
+    let x = escape_code::x_at(text, at, text.len(), q.allowed());
+    if x != 0 {
+        return Inner::Value(scalar(escape_code::code_value(x)), escape_code::code_len(x));
+    }
     let found = escape::unescape(&text[at..], q.allowed());
     match found {
         Escape::Value(u, n) => Inner::Value(scalar(u), n),
