@@ -1,5 +1,5 @@
 -- Laws of the highest byte: how a loop that looks for it goes on, that no byte is above it, and that a part of a text is ASCII where it is
--- below 128.
+-- below 128. Laws of the ASCII bytes at the front.
 -- Assumes nothing.
 use mathlib.Core.Path.{_≡_, refl, sym}
 use mathlib.Core.Bool.{true, false}
@@ -12,8 +12,8 @@ use lib.Seq.{drop-cons}
 use borrow.Author.Tests.{ltb-true, lt-ltb, le-ltb}
 use Rattle.scan.specs.Run.{run, outs}
 use Rattle.scan.proofs.Cases.{cond-lt}
-use Rattle.scan.proofs.Runs.{run-each, run-part}
-use Rattle.validation.specs.HighBytes.{ascii, largerOf, highestFrom}
+use Rattle.scan.proofs.Runs.{run-le, run-each, run-before, run-reach, run-part}
+use Rattle.validation.specs.HighBytes.{ascii, asciiLead, largerOf, highestFrom}
 
 pub highest-more : (m : ℕ) (s : List ℕ) (i : ℕ) → i < length s → highestFrom m (drop i s) ≡ highestFrom (largerOf m (getD s i 0)) (drop (i + 1) s)
 highest-more m s i h = rw (drop-cons s i 0, add-one)
@@ -61,3 +61,29 @@ highest-low m (b ∷ s) h =
 pub ascii-part : (s : List ℕ) (i e : ℕ) → highestFrom 0 (take (e - i) (drop i s)) < 128 → i ≤ e → e ≤ length s
     → e + run ascii (drop e s) ≡ i + run ascii (drop i s)
 ascii-part s i e h l g = sym (run-part ascii s i e (highest-low 0 (take (e - i) (drop i s)) h) l g)
+
+-- ---- the ASCII bytes at the front, at most four
+
+pub lead-none : (s : List ℕ) → length s < 3 → 0 ≡ asciiLead s
+lead-none s h = rw (lt-ltb (length s) 3 h)
+
+-- a text has three bytes or more, and its first n are ASCII
+abbrev pub Led : List ℕ → ℕ → Type 0
+Led s n = (3 ≤ length s) × (n ≤ run ascii s)
+
+pub led-more : (s : List ℕ) (n : ℕ) → n < length s → Led s n → getD s n 0 ≤ 127 → Led s (n + 1)
+led-more s n h l b = (l .0, run-reach ascii s n h (l .1) (ascii-low (getD s n 0) b))
+
+-- these are all that are counted, where there is another byte behind them or none, or where they are four
+pub led-stop : (s : List ℕ) (n : ℕ) → n < 4 → Led s n → 127 < getD s n 0 → n ≡ asciiLead s
+led-stop s n h l b = rw (le-ltb (length s) 3 (l .0)) (omega (arith, run-before ascii s n (ascii-high (getD s n 0) b)))
+
+pub led-end : (s : List ℕ) → Led s 3 → length s ≡ 3 → 3 ≡ asciiLead s
+led-end s l e = rw (le-ltb (length s) 3 (l .0)) (omega (arith, run-le ascii s))
+
+pub led-four : (s : List ℕ) → Led s 4 → 4 ≡ asciiLead s
+led-four s l = rw (le-ltb (length s) 3 (l .0)) (omega arith)
+
+-- all bytes that are counted are ASCII
+pub lead-le : (s : List ℕ) → asciiLead s ≤ run ascii s
+lead-le s = cond-lt (λ (n : ℕ). n ≤ run ascii s) (length s) 3 (λ h. omega arith) (λ h. omega arith)

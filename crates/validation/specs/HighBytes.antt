@@ -2,12 +2,18 @@
 -- Assumes nothing.
 use mathlib.Core.Bool.{Bool, cond}
 use mathlib.Core.List.{List, [], _∷_}
-use Prim.Native.Nat.{ℕ}
+use Prim.Native.Nat.{ℕ, min}
 use lib.Dec.{ltb}
+use lib.ListN.{length}
+use Rattle.scan.specs.Run.{run}
 
 -- RFC 3629, section 3: a byte 0xxxxxxx is a character of its own, an ASCII one
 unfoldable pub ascii : ℕ → Bool
 ascii b = ltb b 128
+
+-- how many ASCII bytes stand at the front of a text, at most four; none are counted where the text has less than three bytes
+abbrev pub asciiLead : List ℕ → ℕ
+asciiLead s = cond (ltb (length s) 3) 0 (min 4 (run ascii s))
 
 -- the larger of two numbers, and the highest number of a list and m: where it is below 128, the list is ASCII
 abbrev pub largerOf : ℕ → ℕ → ℕ

@@ -7,7 +7,7 @@ ghost use Rattle.utf8.specs.Decode.{decode, lenOf};
 ghost use Rattle.utf8.specs.Valid.{isUtf8};
 ghost use Rattle.utf8.specs.Cut.{tail};
 ghost use Rattle.validation.specs.Pairs.{PairAt};
-ghost use Rattle.validation.specs.HighBytes.{ascii, largerOf, highestFrom};
+ghost use Rattle.validation.specs.HighBytes.{ascii, asciiLead, largerOf, highestFrom};
 ghost use Rattle.validation.specs.Faults.{leastBehind, mostBehind, faultOf, worstFrom, worstBehind, cleanBehind};
 
 // The highest byte. With no exit on the way the compiler makes vectors of it.
@@ -259,6 +259,31 @@ fn long_utf8(text: &[u8]) -> bool
     clean_from(text, 3)
 }
 
+// How many of the first four bytes are below 128, up to the first that is not; 0 where there are less than three bytes.
+fn ascii_lead(text: &[u8]) -> usize
+    ensures { λ r. ⌜ r ≡ asciiLead (now (text .entry)) ⌝ }
+{
+    if text.len() < 3 {
+        return 0;
+    }
+    if 127 < text[0] {
+        return 0;
+    }
+    if 127 < text[1] {
+        return 1;
+    }
+    if 127 < text[2] {
+        return 2;
+    }
+    if text.len() == 3 {
+        return 3;
+    }
+    if 127 < text[3] {
+        return 3;
+    }
+    4
+}
+
 // Whether a short text is UTF-8, character by character where it is not ASCII.
 fn short_utf8(text: &[u8]) -> bool
     ensures { λ r. ⌜ r ≡ isUtf8 (now (text .entry)) ⌝ }
@@ -268,7 +293,7 @@ fn short_utf8(text: &[u8]) -> bool
             return true;
         }
     }
-    let mut at = 0;
+    let mut at = ascii_lead(text);
     while at < text.len() {
         let n = valid_len(text, at);
         if n == 0 {

@@ -1,13 +1,16 @@
 -- `validation::short_utf8` meets its contract.
 -- Assumes nothing.
-use mathlib.Core.Path.{_≡_, sym, _∙_}
+use mathlib.Core.Path.{_≡_, refl, sym, _∙_}
 use Prim.Native.Nat.{_+_, _-_, _≤_, _<_}
 use native.Mathlib.Omega.{arith}
 use lib.ListN.{length, drop}
 use borrow.Author.Needs.{needs}
+use Rattle.scan.specs.Run.{run}
+use Rattle.scan.proofs.Runs.{run-le}
 use Rattle.utf8.specs.Valid.{isUtf8}
-use Rattle.validation.proofs.HighBytes.{highest-above}
-use Rattle.utf8.proofs.Valid.{isUtf8-end, isUtf8-char, isUtf8-bad, isUtf8-ascii}
+use Rattle.validation.specs.HighBytes.{ascii}
+use Rattle.validation.proofs.HighBytes.{highest-above, ascii-each, lead-le}
+use Rattle.utf8.proofs.Valid.{isUtf8-end, isUtf8-char, isUtf8-bad, isUtf8-front, isUtf8-ascii}
 use Rattle.validation.proofs.short_utf8.Statement.{statement}
 use Rattle.validation.proofs.short_utf8.Tie as tie
 
@@ -26,8 +29,15 @@ returns c =
     let t = c .before .before .before .before .args .text .now in
     isUtf8-ascii t (λ k h. omega (arith, c .before .highest .ensures, highest-above 0 t k h))
 
+ascii-lead-requires : tie.Need-ascii-lead-requires Inv-loop μ-loop
+ascii-lead-requires c κs = search needs
+
 loop-holds : tie.Need-loop-holds Inv-loop μ-loop
-loop-holds c = search needs
+loop-holds c =
+    let t = c .before .before .before .args .text .now in
+    let n = c .ascii-lead .result in
+    let l : n ≤ run ascii t = omega (arith, c .ascii-lead .ensures, lead-le t) in
+    (omega (arith, run-le ascii t), isUtf8-front t n (λ k h. ascii-each t _ refl k (omega arith)))
 
 valid-len-requires : tie.Need-valid-len-requires Inv-loop μ-loop
 valid-len-requires c κs = search needs
@@ -35,17 +45,17 @@ valid-len-requires c κs = search needs
 returns-2 : tie.Need-returns-2 Inv-loop μ-loop
 returns-2 c =
     let b = c .before .before .before in
-    let t = b .before .before .before .args .text .now in
+    let t = b .before .before .before .before .args .text .now in
     sym (isUtf8-bad t (b .loop .at) _ (c .before .valid-len .ensures) (c .before .before .loop-test .taken) (c .if3 .taken)) ∙ b .loop .inv .1
 
 -- the character that a turn finds
 found : (c : tie.Else3 Inv-loop μ-loop) → let b = c .before .before .before in
-    let t = b .before .before .before .args .text .now in
+    let t = b .before .before .before .before .args .text .now in
     let n = c .before .valid-len .result in
     (0 < n) × (b .loop .at + n ≤ length t) × (isUtf8 (drop (b .loop .at + n) t) ≡ isUtf8 (drop (b .loop .at) t))
 found c =
     let b = c .before .before .before in
-    isUtf8-char (b .before .before .before .args .text .now) (b .loop .at) _ (c .before .valid-len .ensures) (c .if3 .left)
+    isUtf8-char (b .before .before .before .before .args .text .now) (b .loop .at) _ (c .before .valid-len .ensures) (c .if3 .left)
 
 add-at : tie.Need-add-at Inv-loop μ-loop
 add-at c = omega (arith, found c)
@@ -67,6 +77,7 @@ short-utf8-spec =
     μ-loop
     highest-requires
     returns
+    ascii-lead-requires
     loop-holds
     valid-len-requires
     returns-2
