@@ -2,7 +2,7 @@
 -- Assumes nothing.
 use mathlib.Core.Path.{_≡_, refl, sym, ap, _∙_}
 use mathlib.Core.Logic.{_⊎_, inl, inr, ⊎-elim}
-use mathlib.Core.Bool.{Bool, true, false, not, xor}
+use mathlib.Core.Bool.{Bool, true, false, not, xor, or-true}
 use mathlib.Core.List.{List, [], _∷_}
 use Prim.Native.Nat.{ℕ, zero, suc, _/_, _≤_, _<_}
 use native.Mathlib.Omega.{arith}
@@ -10,12 +10,11 @@ use native.Mathlib.Nat.{zero-add, not-suc-le-zero}
 use lib.ListN.{length, getD, drop, length-drop}
 use lib.Seq.{drop-drop, getD-drop}
 use borrow.Author.Tests.{eqb-true, le-leb, lt-leb, lt-ltb, le-ltb, eq-eqb, ne-eqb}
-use Rattle.scan.specs.Bit.{bit}
 use Rattle.scan.proofs.Cases.{cond-eq, by-lt, clash}
 use Rattle.utf8.specs.Decode.{decode3, decode4, decode, lenOf}
 use Rattle.utf8.specs.Valid.{isUtf8}
 use Rattle.utf8.specs.Cut.{tail}
-use Rattle.validation.specs.Faults.{leastBehind, mostBehind, wantsTail, never, faultOf, clean}
+use Rattle.validation.specs.Faults.{leastBehind, mostBehind, wantsTail, never, outside, breaks, mask, faultOf, clean}
 use Rattle.utf8.specs.declared.Decoded.the-variants.{Bad}
 use Rattle.utf8.proofs.At.{decode-two, decode-three, decode-four, decode-alone}
 use Rattle.validation.proofs.Ranges.{
@@ -39,7 +38,7 @@ use Rattle.validation.proofs.Ranges.{
 use Rattle.utf8.proofs.Valid.{isUtf8-end, isUtf8-char, isUtf8-bad}
 
 -- a test holds or does not
-by-test {ℓ} : {P : Type ℓ} (t : Bool) → (t ≡ true → P) → (t ≡ false → P) → P
+pub by-test {ℓ} : {P : Type ℓ} (t : Bool) → (t ≡ true → P) → (t ≡ false → P) → P
 by-test true f g = f refl
 by-test false f g = g refl
 
@@ -130,22 +129,22 @@ broken false = refl
 -- a byte that breaks no rule, and one that breaks each
 module _ (c b a x : ℕ) where
   no-fault : tail x ≡ wantsTail c b a → never x ≡ false → leastBehind a ≤ x → x ≤ mostBehind a → faultOf c b a x ≡ 0
-  unfolding bit faultOf
+  unfolding mask breaks outside
   no-fault t n l m = simp (t, kept, n, le-ltb x (leastBehind a) l, le-ltb (mostBehind a) x m)
 
   odd-fault : tail x ≡ not (wantsTail c b a) → faultOf c b a x ≡ 0 → ⊥
-  unfolding bit faultOf
+  unfolding mask breaks
   odd-fault t z = omega (arith, simp (t, broken) at z)
 
   never-fault : never x ≡ true → faultOf c b a x ≡ 0 → ⊥
-  unfolding bit faultOf
-  never-fault n z = omega (arith, simp n at z)
+  unfolding mask breaks
+  never-fault n z = omega (arith, simp (n, or-true) at z)
 
   range-fault : (leastBehind a ≤ x → x ≤ mostBehind a → ⊥) → faultOf c b a x ≡ 0 → ⊥
-  unfolding bit faultOf
+  unfolding mask breaks outside
   range-fault h z =
-      by-lt x (leastBehind a) (λ l. omega (arith, simp (lt-ltb x (leastBehind a) l) at z)) λ l.
-      by-lt (mostBehind a) x (λ m. omega (arith, simp (lt-ltb (mostBehind a) x m) at z)) (h l)
+      by-lt x (leastBehind a) (λ l. omega (arith, simp (lt-ltb x (leastBehind a) l, or-true) at z)) λ l.
+      by-lt (mostBehind a) x (λ m. omega (arith, simp (lt-ltb (mostBehind a) x m, or-true) at z)) (h l)
 
 -- ---- a text byte by byte
 

@@ -1,9 +1,9 @@
--- Laws of the faults of a text: the sum of tests that the code makes, how a loop that looks for the worst goes on, and what a part of a
+-- Laws of the faults of a text: the tests that the code makes, how a loop that looks for the worst goes on, and what a part of a
 -- text says of the rest.
 -- Assumes nothing.
 use mathlib.Core.Path.{_≡_, refl, sym, ap, _∙_}
 use mathlib.Core.Logic.{inl, inr}
-use mathlib.Core.Bool.{Bool, true, false, not, _||_, Bool·beq, xor}
+use mathlib.Core.Bool.{Bool, true, false, cond, not, _||_, Bool·beq, xor, or-true}
 use mathlib.Core.List.{List, [], _∷_}
 use Prim.Native.Nat.{ℕ, zero, suc, _+_, _-_, _/_, _≤_, _<_}
 use native.Mathlib.Nat.{add-zero}
@@ -12,47 +12,105 @@ use native.Mathlib.Omega.{arith}
 use lib.Dec.{ltb, leb, eqb}
 use lib.ListN.{length, getD, take, drop, length-drop, drop-of-length-le}
 use lib.Seq.{drop-length, drop-cons, drop-drop, getD-drop}
-use borrow.Author.Tests.{le-leb, lt-leb, lt-ltb, le-ltb, eq-eqb, ne-eqb}
-use Rattle.scan.specs.Bit.{bit}
-use Rattle.scan.proofs.Cases.{cond-eq, by-lt}
+use borrow.Author.Tests.{le-leb, lt-leb, lt-ltb, le-ltb, eq-eqb, ne-eqb, eqb-true, eqb-false}
+use Rattle.scan.proofs.Cases.{cond-eq, cond-lt, by-lt}
 use Rattle.utf8.specs.Valid.{isUtf8}
 use Rattle.utf8.specs.Cut.{tail}
 use Rattle.validation.specs.HighBytes.{largerOf}
-use Rattle.validation.specs.Faults.{leastBehind, mostBehind, wantsTail, never, faultOf, worstFrom, clean, worstBehind, cleanBehind}
+use Rattle.validation.specs.Faults.{leastBehind, mostBehind, wantsTail, never, outside, breaks, mask, faultOf, worstFrom, clean, worstBehind, cleanBehind}
 use Rattle.validation.proofs.HighBytes.{larger-left, larger-right}
 use Rattle.utf8.proofs.Valid.{isUtf8-front}
-use Rattle.validation.proofs.Clean.{never-low, never-high, never-not, clean-utf8}
+use Rattle.validation.proofs.Clean.{by-test, never-low, never-high, never-not, clean-utf8}
 
--- ---- one byte: the code's sums of tests
+-- ---- one byte: the code's tests
 
-any-bit : (p q r : Bool) → not (eqb (bit p + bit q + bit r) 0) ≡ p || (q || r)
-unfolding bit
-any-bit true true true = refl
-any-bit true true false = refl
-any-bit true false true = refl
-any-bit true false false = refl
-any-bit false true true = refl
-any-bit false true false = refl
-any-bit false false true = refl
-any-bit false false false = refl
+mask-or : (p q : Bool) → largerOf (mask p) (mask q) ≡ mask (p || q)
+unfolding mask
+mask-or true true = refl
+mask-or true false = refl
+mask-or false true = refl
+mask-or false false = refl
 
-never-sum : (x : ℕ) → bit (eqb (x / 2) 0x60) + bit (ltb 0xF4 x) ≡ bit (never x)
-unfolding bit
-never-sum x =
+-- the larger of two is above where one of them is
+above-or : (m n : ℕ) → ltb 127 (largerOf m n) ≡ ltb 127 m || ltb 127 n
+above-or m n = by-lt 127 m (λ h. rw (lt-ltb 127 m h) (lt-ltb 127 (largerOf m n) (omega (arith, larger-left m n)))) λ h.
+    by-lt 127 n (λ g. rw (le-ltb 127 m h, lt-ltb 127 n g) (lt-ltb 127 (largerOf m n) (omega (arith, larger-right m n)))) λ g.
+    rw (le-ltb 127 m h, le-ltb 127 n g) (cond-lt (λ (k : ℕ). ltb 127 k ≡ false) m n (λ l. le-ltb 127 n g) (λ l. le-ltb 127 m h))
+
+over-is : (n x : ℕ) → ltb 127 (x - n) ≡ leb (n + 128) x
+over-is n x = by-lt x (n + 128) (λ h. rw (lt-leb (n + 128) x h) (le-ltb 127 (x - n) (omega arith))) (λ h. rw (le-leb (n + 128) x h) (lt-ltb 127 (x - n) (omega arith)))
+
+wanted-is : (c b a : ℕ) → ltb 127 (largerOf (a - 0x40) (largerOf (b - 0x60) (c - 0x70))) ≡ wantsTail c b a
+unfolding wantsTail
+wanted-is c b a = rw (above-or, above-or, over-is 0x40 a, over-is 0x60 b, over-is 0x70 c)
+
+never-is : (x : ℕ) → eqb (x / 2) 0x60 || ltb 0xF4 x ≡ never x
+never-is x =
     by-lt x 0xC0 (λ h. rw (never-not x (inl h) (omega arith)) (other (omega arith) (λ e. omega arith))) λ g.
-    by-lt x 0xC2 (λ h. rw (never-low x g h) (simp (eq-eqb (x / 2) 0x60 (omega arith), le-ltb 0xF4 x (omega arith)))) λ h.
+    by-lt x 0xC2 (λ h. rw (never-low x g h) (simp (eq-eqb (x / 2) 0x60 (omega arith)))) λ h.
     by-lt 0xF4 x
-    (λ k. rw (never-high x k) (simp (lt-ltb 0xF4 x k, ne-eqb (x / 2) 0x60 (λ e. omega arith))))
+    (λ k. rw (never-high x k) (simp (lt-ltb 0xF4 x k, or-true)))
     (λ k. rw (never-not x (inr h) k) (other k (λ e. omega arith)))
   where
-    other : x ≤ 0xF4 → (x / 2 ≡ 0x60 → ⊥) → bit (eqb (x / 2) 0x60) + bit (ltb 0xF4 x) ≡ 0
+    other : x ≤ 0xF4 → (x / 2 ≡ 0x60 → ⊥) → eqb (x / 2) 0x60 || ltb 0xF4 x ≡ false
     other k n = simp (le-ltb 0xF4 x k, ne-eqb (x / 2) 0x60 n)
 
-pub fault-sum : (c b a x : ℕ)
-    → bit (not (Bool·beq (not (eqb (bit (leb 0xC0 a) + bit (leb 0xE0 b) + bit (leb 0xF0 c)) 0)) (tail x)))
-    + (bit (eqb (x / 2) 0x60) + bit (ltb 0xF4 x)) + bit (ltb x (leastBehind a)) + bit (ltb (mostBehind a) x) ≡ faultOf c b a x
-unfolding faultOf wantsTail xor
-fault-sum c b a x = rw (any-bit, never-sum x)
+-- a tail is below n + 1 or above n
+above-not : (n x : ℕ) → ltb n x ≡ not (ltb x (n + 1))
+above-not n x = by-lt n x (λ h. rw (lt-ltb n x h, le-ltb x (n + 1) (omega arith))) (λ h. rw (le-ltb n x h, lt-ltb x (n + 1) (omega arith)))
+
+-- each first byte that has a range, by what is below A0 and below 90
+e0 : (t u : Bool) → eqb 0xE0 (cond t 0xE0 0xED) || eqb 0xE0 (cond u 0xF0 0xF4) ≡ t || false
+e0 true u = refl
+e0 false true = refl
+e0 false false = refl
+
+ed : (t u : Bool) → eqb 0xED (cond t 0xE0 0xED) || eqb 0xED (cond u 0xF0 0xF4) ≡ not t
+ed false u = refl
+ed true true = refl
+ed true false = refl
+
+f0 : (t u : Bool) → eqb 0xF0 (cond t 0xE0 0xED) || eqb 0xF0 (cond u 0xF0 0xF4) ≡ u || false
+f0 true true = refl
+f0 true false = refl
+f0 false true = refl
+f0 false false = refl
+
+f4 : (t u : Bool) → eqb 0xF4 (cond t 0xE0 0xED) || eqb 0xF4 (cond u 0xF0 0xF4) ≡ not u
+f4 true true = refl
+f4 true false = refl
+f4 false true = refl
+f4 false false = refl
+
+-- another has none
+no-range : (a : ℕ) (t u : Bool) → (a ≡ 0xE0 → ⊥) → (a ≡ 0xED → ⊥) → (a ≡ 0xF0 → ⊥) → (a ≡ 0xF4 → ⊥)
+    → eqb a (cond t 0xE0 0xED) || eqb a (cond u 0xF0 0xF4) ≡ false
+no-range a true true p q r s = rw (ne-eqb a 0xE0 p, ne-eqb a 0xF0 r)
+no-range a true false p q r s = rw (ne-eqb a 0xE0 p, ne-eqb a 0xF4 s)
+no-range a false true p q r s = rw (ne-eqb a 0xED q, ne-eqb a 0xF0 r)
+no-range a false false p q r s = rw (ne-eqb a 0xED q, ne-eqb a 0xF4 s)
+
+-- a number is another or is not
+by-eq {ℓ} : {P : Type ℓ} (a n : ℕ) → (a ≡ n → P) → ((a ≡ n → ⊥) → P) → P
+by-eq a n f g = by-test (eqb a n) (λ e. f (eqb-true a n e)) (λ e. g (eqb-false a n e))
+
+outside-is : (a x : ℕ) → x ≤ 0xFF → eqb a (cond (ltb x 0xA0) 0xE0 0xED) || eqb a (cond (ltb x 0x90) 0xF0 0xF4) ≡ outside a x
+unfolding outside leastBehind mostBehind
+outside-is a x h =
+    by-eq a 0xE0 (λ e. rw (e, le-ltb 0xFF x h) (e0 (ltb x 0xA0) (ltb x 0x90))) λ p.
+    by-eq a 0xED (λ e. rw (e, le-ltb x 0 (omega arith), above-not 0x9F x) (ed (ltb x 0xA0) (ltb x 0x90))) λ q.
+    by-eq a 0xF0 (λ e. rw (e, le-ltb 0xFF x h) (f0 (ltb x 0xA0) (ltb x 0x90))) λ r.
+    by-eq a 0xF4 (λ e. rw (e, le-ltb x 0 (omega arith), above-not 0x8F x) (f4 (ltb x 0xA0) (ltb x 0x90))) λ s.
+    no-range a (ltb x 0xA0) (ltb x 0x90) p q r s
+    ∙ sym (simp (ne-eqb a 0xE0 p, ne-eqb a 0xF0 r, ne-eqb a 0xED q, ne-eqb a 0xF4 s, le-ltb x 0 (omega arith), le-ltb 0xFF x h))
+
+-- THE LAW: the tests together say whether a rule is broken.
+pub fault-is : (c b a x : ℕ) → x ≤ 0xFF
+    → largerOf (mask (not (Bool·beq (ltb 127 (largerOf (a - 0x40) (largerOf (b - 0x60) (c - 0x70)))) (tail x))))
+    (largerOf (largerOf (mask (eqb (x / 2) 0x60)) (mask (ltb 0xF4 x)))
+    (largerOf (mask (eqb a (cond (ltb x 0xA0) 0xE0 0xED))) (mask (eqb a (cond (ltb x 0x90) 0xF0 0xF4))))) ≡ faultOf c b a x
+unfolding breaks xor
+fault-is c b a x h = rw (wanted-is c b a, mask-or (eqb (x / 2) 0x60) (ltb 0xF4 x), mask-or (eqb a (cond (ltb x 0xA0) 0xE0 0xED)) (eqb a (cond (ltb x 0x90) 0xF0 0xF4)), never-is x, outside-is a x h, mask-or, mask-or)
 
 -- ---- the worst fault, along a list
 

@@ -6,10 +6,9 @@
 -- Assumes nothing.
 use mathlib.Core.Bool.{Bool, false, cond, not, _||_, xor}
 use mathlib.Core.List.{List, [], _∷_}
-use Prim.Native.Nat.{ℕ, _+_}
+use Prim.Native.Nat.{ℕ}
 use lib.Dec.{ltb, leb, eqb}
 use lib.ListN.{getD, drop}
-use Rattle.scan.specs.Bit.{bit}
 use Rattle.utf8.specs.Cut.{tail}
 use Rattle.validation.specs.HighBytes.{largerOf}
 
@@ -29,11 +28,20 @@ wantsTail c b a = leb 0xC0 a || (leb 0xE0 b || leb 0xF0 c)
 unfoldable pub never : ℕ → Bool
 never x = eqb x 0xC0 || (eqb x 0xC1 || ltb 0xF4 x)
 
--- how many of these rules the byte x breaks behind c, b, a: a tail exactly where one is wanted, no byte that stands nowhere, no byte
--- outside a first byte's range
-unfoldable pub faultOf : ℕ → ℕ → ℕ → ℕ → ℕ
-faultOf c b a x =
-    bit (xor (wantsTail c b a) (tail x)) + bit (never x) + bit (ltb x (leastBehind a)) + bit (ltb (mostBehind a) x)
+-- a byte x outside the range behind a
+unfoldable pub outside : ℕ → ℕ → Bool
+outside a x = ltb x (leastBehind a) || ltb (mostBehind a) x
+
+-- the byte x breaks one of these rules behind c, b, a: a tail exactly where one is wanted, no byte that stands nowhere, no byte out of range
+unfoldable pub breaks : ℕ → ℕ → ℕ → ℕ → Bool
+breaks c b a x = xor (wantsTail c b a) (tail x) || (never x || outside a x)
+
+-- a test as a byte: 255 where it holds
+unfoldable pub mask : Bool → ℕ
+mask t = cond t 255 0
+
+abbrev pub faultOf : ℕ → ℕ → ℕ → ℕ → ℕ
+faultOf c b a x = mask (breaks c b a x)
 
 -- the highest of these numbers over the bytes behind c, b, a, and m: 0 where no byte is at fault
 abbrev pub worstFrom : ℕ → ℕ → ℕ → ℕ → List ℕ → ℕ

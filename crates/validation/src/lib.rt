@@ -1,6 +1,8 @@
 // Whether a text is UTF-8: a short one is checked character by character, a long one byte by byte in blocks.
 ghost use mathlib.Core.Path.{_≡_};
+ghost use mathlib.Core.Bool.{cond};
 ghost use Prim.Native.Nat.{_+_, _-_, _≤_, _<_};
+ghost use lib.Dec.{ltb};
 ghost use lib.ListN.{length, getD, take, drop};
 ghost use Rattle.scan.specs.Run.{run};
 ghost use Rattle.utf8.specs.Decode.{decode, lenOf};
@@ -8,7 +10,8 @@ ghost use Rattle.utf8.specs.Valid.{isUtf8};
 ghost use Rattle.utf8.specs.Cut.{tail};
 ghost use Rattle.validation.specs.Pairs.{PairAt};
 ghost use Rattle.validation.specs.HighBytes.{ascii, asciiLead, largerOf, highestFrom};
-ghost use Rattle.validation.specs.Faults.{leastBehind, mostBehind, faultOf, worstFrom, worstBehind, cleanBehind};
+ghost use Rattle.validation.specs.Faults.{faultOf, worstFrom, worstBehind, cleanBehind};
+ghost use Rattle.validation.specs.Faults as faults;
 
 // The highest byte. With no exit on the way the compiler makes vectors of it.
 fn highest(s: &[u8]) -> u8
@@ -148,43 +151,47 @@ fn valid_len(text: &[u8], at: usize) -> usize
     four_len(text, at, first, second)
 }
 
-// The least byte that may stand behind a byte.
-fn least_behind(a: u8) -> u8
-    ensures { λ r. ⌜ r ≡ leastBehind a ⌝ }
+// A test as a byte: 255 where it holds.
+fn mask(t: bool) -> u8
+    ensures { λ r. ⌜ r ≡ faults.mask t ⌝ }
 {
-    if a == 0xE0 {
-        return 0xA0;
-    }
-    if a == 0xF0 {
-        return 0x90;
-    }
-    0
+    if t { 255 } else { 0 }
 }
 
-// The largest byte that may stand behind a byte.
-fn most_behind(a: u8) -> u8
-    ensures { λ r. ⌜ r ≡ mostBehind a ⌝ }
+// How much a byte is above another, or 0.
+fn over(x: u8, n: u8) -> u8
+    ensures { λ r. ⌜ r ≡ x - n ⌝ }
 {
-    if a == 0xED {
-        return 0x9F;
-    }
-    if a == 0xF4 {
-        return 0x8F;
-    }
-    0xFF
+    if x < n { 0 } else { x - n }
 }
 
-// How many rules a byte breaks behind the three before it. Every test is made, so that the compiler makes vectors of `worst_fault`.
+// The first byte of three bytes behind which a tail is out of range: E0 for one below A0, ED for another.
+fn three_against(x: u8) -> u8
+    ensures { λ r. ⌜ r ≡ cond (ltb x 0xA0) 0xE0 0xED ⌝ }
+{
+    if x < 0xA0 { 0xE0 } else { 0xED }
+}
+
+// The same of four bytes: F0 for one below 90, F4 for another.
+fn four_against(x: u8) -> u8
+    ensures { λ r. ⌜ r ≡ cond (ltb x 0x90) 0xF0 0xF4 ⌝ }
+{
+    if x < 0x90 { 0xF0 } else { 0xF4 }
+}
+
+// 255 where a byte breaks a rule behind the three before it, else 0. Every test is made, so that the compiler makes vectors of `worst_fault`;
+// a tail is wanted where one of the three is that high.
 fn fault(c: u8, b: u8, a: u8, x: u8) -> u8
     ensures { λ r. ⌜ r ≡ faultOf c b a x ⌝ }
 {
-    let wanted = scan::bit(0xC0 <= a) + scan::bit(0xE0 <= b) + scan::bit(0xF0 <= c);
-    let odd = scan::bit((wanted != 0) != utf8::is_tail(x));
-    let never = scan::bit(x / 2 == 0x60) + scan::bit(0xF4 < x);
-    odd + never + scan::bit(x < least_behind(a)) + scan::bit(most_behind(a) < x)
+    let wanted = larger(over(a, 0x40), larger(over(b, 0x60), over(c, 0x70)));
+    let odd = mask((127 < wanted) != utf8::is_tail(x));
+    let never = larger(mask(x / 2 == 0x60), mask(0xF4 < x));
+    let outside = larger(mask(a == three_against(x)), mask(a == four_against(x)));
+    larger(odd, larger(never, outside))
 }
 
-// The most rules that a byte behind the first three breaks.
+// 255 where a byte behind the first three breaks a rule, else 0.
 fn worst_fault(s: &[u8]) -> u8
     ensures { λ r. ⌜ r ≡ worstBehind (now (s .entry)) ⌝ }
 {

@@ -2,93 +2,101 @@
 -- Assumes nothing.
 use native.Mathlib.Omega.{arith}
 use borrow.Author.Needs.{needs}
-use Rattle.scan.proofs.Cases.{bit-le}
-use Rattle.validation.proofs.Faults.{fault-sum}
+use Rattle.validation.proofs.Faults.{fault-is}
 use Rattle.validation.proofs.fault.Statement.{statement}
 use Rattle.validation.proofs.fault.Tie as tie
 
-bit-requires : tie.Need-bit-requires
-bit-requires c κs = search needs
+over-requires : tie.Need-over-requires
+over-requires c κs = search needs
 
-bit-requires-2 : tie.Need-bit-requires-2
-bit-requires-2 c κs = search needs
+over-requires-2 : tie.Need-over-requires-2
+over-requires-2 c κs = search needs
 
-add-wanted : tie.Need-add-wanted
-add-wanted c = omega (arith, bit-le _ (c .before .bit .ensures), bit-le _ (c .bit2 .ensures))
+over-requires-3 : tie.Need-over-requires-3
+over-requires-3 c κs = search needs
 
-bit-requires-3 : tie.Need-bit-requires-3
-bit-requires-3 c κs = search needs
+larger-requires : tie.Need-larger-requires
+larger-requires c κs = search needs
 
-add-wanted-2 : tie.Need-add-wanted-2
-add-wanted-2 c = omega (arith, bit-le _ (c .before .before .bit .ensures), bit-le _ (c .before .bit2 .ensures), bit-le _ (c .bit3 .ensures))
+larger-requires-2 : tie.Need-larger-requires-2
+larger-requires-2 c κs = search needs
 
 is-tail-requires : tie.Need-is-tail-requires
 is-tail-requires c κs = search needs
 
-bit-requires-4 : tie.Need-bit-requires-4
-bit-requires-4 c κs = search needs
+mask-requires : tie.Need-mask-requires
+mask-requires c κs = search needs
 
-bit-requires-5 : tie.Need-bit-requires-5
-bit-requires-5 c κs = search needs
+mask-requires-2 : tie.Need-mask-requires-2
+mask-requires-2 c κs = search needs
 
-bit-requires-6 : tie.Need-bit-requires-6
-bit-requires-6 c κs = search needs
+mask-requires-3 : tie.Need-mask-requires-3
+mask-requires-3 c κs = search needs
 
-add-never : tie.Need-add-never
-add-never c = omega (arith, bit-le _ (c .before .bit5 .ensures), bit-le _ (c .bit6 .ensures))
+larger-requires-3 : tie.Need-larger-requires-3
+larger-requires-3 c κs = search needs
 
-add-result : tie.Need-add-result
-add-result c = omega (arith, bit-le _ (c .before .before .bit4 .ensures), bit-le _ (c .before .bit5 .ensures), bit-le _ (c .bit6 .ensures))
+three-against-requires : tie.Need-three-against-requires
+three-against-requires c κs = search needs
 
-least-behind-requires : tie.Need-least-behind-requires
-least-behind-requires c κs = search needs
+mask-requires-4 : tie.Need-mask-requires-4
+mask-requires-4 c κs = search needs
 
-bit-requires-7 : tie.Need-bit-requires-7
-bit-requires-7 c κs = search needs
+four-against-requires : tie.Need-four-against-requires
+four-against-requires c κs = search needs
 
-add-result-2 : tie.Need-add-result-2
-add-result-2 c = omega (arith, bit-le _ (c .before .before .before .before .bit4 .ensures), bit-le _ (c .before .before .before .bit5 .ensures), bit-le _ (c .before .before .bit6 .ensures), bit-le _ (c .bit7 .ensures))
+mask-requires-5 : tie.Need-mask-requires-5
+mask-requires-5 c κs = search needs
 
-most-behind-requires : tie.Need-most-behind-requires
-most-behind-requires c κs = search needs
+larger-requires-4 : tie.Need-larger-requires-4
+larger-requires-4 c κs = search needs
 
-bit-requires-8 : tie.Need-bit-requires-8
-bit-requires-8 c κs = search needs
+larger-requires-5 : tie.Need-larger-requires-5
+larger-requires-5 c κs = search needs
 
-add-result-3 : tie.Need-add-result-3
-add-result-3 c = omega (arith, bit-le _ (c .before .before .before .before .before .before .bit4 .ensures), bit-le _ (c .before .before .before .before .before .bit5 .ensures), bit-le _ (c .before .before .before .before .bit6 .ensures), bit-le _ (c .before .before .bit7 .ensures), bit-le _ (c .bit8 .ensures))
+larger-requires-6 : tie.Need-larger-requires-6
+larger-requires-6 c κs = search needs
 
 returns : tie.Need-returns
 returns c =
-    let c7 = c .before .before in
-    let c6 = c7 .before .before in
-    let c5 = c6 .before in
-    let c4 = c5 .before in
-    let c3 = c4 .before .before in
-    let c2 = c3 .before in
-    let c1 = c2 .before in
-    simp (c .bit8 .ensures, c .before .most-behind .ensures, c7 .bit7 .ensures, c7 .before .least-behind .ensures, c6 .bit6 .ensures, c5 .bit5 .ensures, c4 .bit4 .ensures, c4 .before .is-tail .ensures, c3 .bit3 .ensures, c2 .bit2 .ensures, c1 .bit .ensures)
-    (fault-sum _ _ _ _)
+    let c1 = c .before in
+    let c2 = c1 .before in
+    let c3 = c2 .before in
+    let c4 = c3 .before in
+    let c5 = c4 .before in
+    let c6 = c5 .before in
+    let c7 = c6 .before in
+    let c8 = c7 .before in
+    let c9 = c8 .before in
+    let c10 = c9 .before in
+    let c11 = c10 .before in
+    let c12 = c11 .before in
+    let c13 = c12 .before in
+    let c14 = c13 .before in
+    let c15 = c14 .before in
+    let c16 = c15 .before in
+    simp (c .larger6 .ensures, c1 .larger5 .ensures, c2 .larger4 .ensures, c3 .mask5 .ensures, c4 .four-against .ensures, c5 .mask4 .ensures, c6 .three-against .ensures, c7 .larger3 .ensures, c8 .mask3 .ensures, c9 .mask2 .ensures, c10 .mask .ensures, c11 .is-tail .ensures, c12 .larger2 .ensures, c13 .larger .ensures, c14 .over3 .ensures, c15 .over2 .ensures, c16 .over .ensures)
+    (fault-is _ _ _ (c16 .before .args .x) (search needs))
 
 pub fault-spec : {M : Type 1} → statement M
 fault-spec =
     tie.close
     (tie.spec
-    bit-requires
-    bit-requires-2
-    add-wanted
-    bit-requires-3
-    add-wanted-2
+    over-requires
+    over-requires-2
+    over-requires-3
+    larger-requires
+    larger-requires-2
     is-tail-requires
-    bit-requires-4
-    bit-requires-5
-    bit-requires-6
-    add-never
-    add-result
-    least-behind-requires
-    bit-requires-7
-    add-result-2
-    most-behind-requires
-    bit-requires-8
-    add-result-3
+    mask-requires
+    mask-requires-2
+    mask-requires-3
+    larger-requires-3
+    three-against-requires
+    mask-requires-4
+    four-against-requires
+    mask-requires-5
+    larger-requires-4
+    larger-requires-5
+    larger-requires-6
     returns)

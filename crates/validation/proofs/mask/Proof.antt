@@ -1,0 +1,16 @@
+-- `validation::mask` meets its contract.
+-- Assumes nothing.
+use Rattle.validation.specs.Faults as faults
+use Rattle.validation.proofs.mask.Statement.{statement}
+use Rattle.validation.proofs.mask.Tie as tie
+
+returns : tie.Need-returns
+unfolding faults.mask
+returns c = rw (c .if1 .taken)
+
+returns-2 : tie.Need-returns-2
+unfolding faults.mask
+returns-2 c = rw (c .if1 .left)
+
+pub mask-spec : {M : Type 1} → statement M
+mask-spec = tie.close (tie.spec returns returns-2)
