@@ -46,12 +46,12 @@ fn ascii_end(text: &[u8], from: usize) -> usize
     i
 }
 
-// How many bytes at the front are below 128: by blocks while there are 64 bytes, then the rest at once. Where one of them has a higher byte,
-// its place is found byte by byte.
-fn ascii_front(text: &[u8]) -> usize
-    ensures { λ r. ⌜ r ≡ run ascii (now (text .entry)) ⌝ }
+// The same by blocks while there are 64 bytes, then the rest at once. Where one of them has a higher byte, its place is found byte by byte.
+fn ascii_blocks(text: &[u8], from: usize) -> usize
+    requires { ⌜ from ≤ length (now text) ⌝ }
+    ensures { λ r. ⌜ r ≡ from + run ascii (drop from (now (text .entry))) ⌝ }
 {
-    let mut i = 0;
+    let mut i = from;
     while 64 <= text.len() - i {
         let e = i + 64;
         if 127 < highest(&text[i..e]) {
@@ -63,6 +63,21 @@ fn ascii_front(text: &[u8]) -> usize
         return text.len();
     }
     ascii_end(text, i)
+}
+
+// How many bytes at the front are below 128: by larger blocks first.
+fn ascii_front(text: &[u8]) -> usize
+    ensures { λ r. ⌜ r ≡ run ascii (now (text .entry)) ⌝ }
+{
+    let mut i = 0;
+    while 256 <= text.len() - i {
+        let e = i + 256;
+        if 127 < highest(&text[i..e]) {
+            return ascii_blocks(text, i);
+        }
+        i = e;
+    }
+    ascii_blocks(text, i)
 }
 
 // Whether a byte 10xxxxxx stands at an offset; behind the end there is none.
