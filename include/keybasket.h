@@ -157,8 +157,8 @@ size_t keybasket_decode(uint64_t entry, const uint8_t *text, size_t text_len, ui
  * Answers the form's length, and the bytes of out behind the form keep what they held. Or answers KEYBASKET_REFUSED plus the
  * refusal number, and out is exactly as it came.
  *
- * Two texts are the same (kind, exact value and suffix) exactly when both answers are below KEYBASKET_REFUSED, the two are equal, and so are
- * that many bytes of the two buffers. Bytes behind a form are none of it, and two refusals are no "same".
+ * Of two texts whose answers are both below KEYBASKET_REFUSED: they are the same (kind, exact value and suffix) exactly when the answers are
+ * equal and so are that many bytes of the two buffers. Bytes behind a form are none of it, and of a refused text this says nothing.
  */
 size_t keybasket_settle(const uint8_t *text, size_t text_len, uint8_t *out, size_t out_len);
 
