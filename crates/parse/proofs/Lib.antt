@@ -2,4 +2,4 @@ pub mod Table
 pub mod Classes
 pub mod Suffixes
 pub mod Numbers
-mod Indents
+pub mod Indents

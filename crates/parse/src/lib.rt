@@ -368,33 +368,30 @@ pub fn run_len(s: &[u8], set: ClassSet) -> usize
     i
 }
 
-// Four spaces at the front, the most usual indent, are passed at once: 4 where they stand there, else 0.
-fn indent_len(s: &[u8]) -> usize
-    ensures { λ r. ⌜ r ≡ cond (leb 4 (run (only 32) (now (s .entry)))) 4 0 ⌝ }
+// Whether four spaces stand at the front, the most usual indent.
+pub fn is_indented(s: &[u8]) -> bool
+    ensures { λ r. ⌜ r ≡ leb 4 (run (only 32) (now (s .entry))) ⌝ }
 {
     if s.len() < 4 {
-        return 0;
+        return false;
     }
     if s[0] != b' ' {
-        return 0;
+        return false;
     }
     if s[1] != b' ' {
-        return 0;
+        return false;
     }
     if s[2] != b' ' {
-        return 0;
+        return false;
     }
-    if s[3] != b' ' {
-        return 0;
-    }
-    4
+    s[3] == b' '
 }
 
 // How many spaces, tabs and LFs stand at the front.
 pub fn blanks_len(s: &[u8]) -> usize
     ensures { λ r. ⌜ r ≡ run blank (now (s .entry)) ⌝ }
 {
-    let mut i = indent_len(s);
+    let mut i = 0;
     while i < s.len() {
         if !is_blank(s[i]) {
             return i;

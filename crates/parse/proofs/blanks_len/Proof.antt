@@ -8,7 +8,6 @@ use borrow.Author.Needs.{needs}
 use Rattle.scan.specs.Run.{run}
 use Rattle.scan.proofs.Runs.{run-more, run-stop, run-end}
 use Rattle.parse.specs.Sets.{blank}
-use Rattle.parse.proofs.Indents.{indent-blanks}
 use Rattle.parse.proofs.blanks_len.Statement.{statement}
 use Rattle.parse.proofs.blanks_len.Tie as tie
 
@@ -19,11 +18,8 @@ Inv-loop s i₀ i = (i ≤ length s) × (i + run blank (drop i s) ≡ run blank 
 abbrev μ-loop : tie.MeasureT-loop
 μ-loop s i₀ i = length s - i
 
-indent-len-requires : tie.Need-indent-len-requires Inv-loop μ-loop
-indent-len-requires c κs = search needs
-
 loop-holds : tie.Need-loop-holds Inv-loop μ-loop
-loop-holds c = indent-blanks _ _ (c .indent-len .ensures)
+loop-holds c = search needs
 
 shared-slice-read-is-blank : tie.Need-shared-slice-read-is-blank Inv-loop μ-loop
 shared-slice-read-is-blank c = search needs
@@ -56,7 +52,6 @@ blanks-len-spec =
     (tie.spec
     Inv-loop
     μ-loop
-    indent-len-requires
     loop-holds
     shared-slice-read-is-blank
     is-blank-requires

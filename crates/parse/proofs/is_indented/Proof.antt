@@ -1,10 +1,10 @@
--- `parse::indent_len` meets its contract.
+-- `parse::is_indented` meets its contract.
 -- Assumes nothing.
 use borrow.Author.Needs.{needs}
 use native.Mathlib.Omega.{arith}
 use Rattle.parse.proofs.Indents.{short-indent, no-indent, indent}
-use Rattle.parse.proofs.indent_len.Statement.{statement}
-use Rattle.parse.proofs.indent_len.Tie as tie
+use Rattle.parse.proofs.is_indented.Statement.{statement}
+use Rattle.parse.proofs.is_indented.Tie as tie
 
 returns : tie.Need-returns
 returns c = short-indent (c .before .args .s .now) (c .if1 .taken)
@@ -27,21 +27,18 @@ shared-slice-read-if4 c = search needs
 returns-4 : tie.Need-returns-4
 returns-4 c = no-indent (c .before .before .before .before .before .before .before .args .s .now) 2 (omega arith) (c .if4 .taken)
 
-shared-slice-read-if5 : tie.Need-shared-slice-read-if5
-shared-slice-read-if5 c = search needs
+shared-slice-read-result : tie.Need-shared-slice-read-result
+shared-slice-read-result c = search needs
 
 returns-5 : tie.Need-returns-5
-returns-5 c = no-indent (c .before .before .before .before .before .before .before .before .before .args .s .now) 3 (omega arith) (c .if5 .taken)
-
-returns-6 : tie.Need-returns-6
-returns-6 c =
-    let f4 = c .before .before in
+returns-5 c =
+    let f4 = c .before in
     let f3 = f4 .before .before in
     let f2 = f3 .before .before in
-    indent (c .before .before .before .before .before .before .before .before .before .args .s .now) (f2 .before .before .if1 .left) (f2 .if2 .left) (f3 .if3 .left) (f4 .if4 .left) (c .if5 .left)
+    indent (c .before .before .before .before .before .before .before .before .args .s .now) (f2 .before .before .if1 .left) (f2 .if2 .left) (f3 .if3 .left) (f4 .if4 .left)
 
-pub indent-len-spec : {M : Type 1} → statement M
-indent-len-spec =
+pub is-indented-spec : {M : Type 1} → statement M
+is-indented-spec =
     tie.close
     (tie.spec
     returns
@@ -51,6 +48,5 @@ indent-len-spec =
     returns-3
     shared-slice-read-if4
     returns-4
-    shared-slice-read-if5
-    returns-5
-    returns-6)
+    shared-slice-read-result
+    returns-5)
