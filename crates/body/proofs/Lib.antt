@@ -6,10 +6,4 @@ pub mod Runs
 pub mod Codes
 pub mod Strides
 pub mod Raws
-pub mod Values
 pub mod Strings
-pub mod Complete
-pub mod Sound
-pub mod Exact
-pub mod Examples
-pub mod Contents

@@ -24,7 +24,8 @@ pub record Char (k : Allowed) (b : ℕ) : Type 0 where
   pub ascii : (not (unicode k) && ltb 127 b) ≡ false
 
 -- What stands between the quotes, and its value: bytes that stand for themselves, escapes, and dropped line breaks, each of which drops
--- every space, tab and LF that follows. `proofs/Exact` shows that `body` reads exactly this, and `rawBody` what is below.
+-- every space, tab and LF that follows. The laws `exact` and `raw-exact` of `body_value` show that `body` reads exactly this, and `rawBody`
+-- what is below.
 pub data Content (k : Allowed) : List ℕ → List ℕ → Type 0 where
   none : Content k [] []
   char : {s v : List ℕ} (b : ℕ) → Char k b → Content k s v → Content k (b ∷ s) (b ∷ v)

@@ -164,7 +164,29 @@ pub fn plain_end(s: &[u8], from: usize, k: Allowed) -> usize
     if i < near {
         return i;
     }
-    block_end(s, i, k)
+    // not `block_end(s, i, k)`: a slice that is handed on whole has to live in memory
+    i + block_end(&s[i..], 0, k)
+}
+
+// The same, where a run of one byte pays for no call.
+fn run_end(s: &[u8], from: usize, k: Allowed) -> usize
+    requires { ⌜ from ≤ length (now s) ⌝ }
+    ensures { λ r. ⌜ r ≡ from + run (plainByte k) (drop from (now (s .entry))) ⌝ }
+{
+    if s.len() <= from {
+        return from;
+    }
+    if !is_plain(s[from], k) {
+        return from;
+    }
+    let next = from + 1;
+    if s.len() <= next {
+        return next;
+    }
+    if !is_plain(s[next], k) {
+        return next;
+    }
+    plain_end(s, next, k)
 }
 
 // A backslash and LF, and the blanks that follow.
@@ -248,6 +270,9 @@ pub fn break_end(s: &[u8], at: usize) -> usize
         return 0;
     }
     let from = at + 2;
+    if b' ' < scan::byte_at(s, from) {
+        return from;
+    }
     let e = from + parse::blanks_len(&s[from..]);
     if e == s.len() { 0 } else { e }
 }
@@ -257,15 +282,15 @@ fn stride_at(s: &[u8], at: usize, end: usize, k: Allowed) -> Stride
     requires { ⌜ (getD (now s) at 0 ≡ 92) × ((length (now s) < 4294967296) × (end ≡ length (now s) - lastLen (now s))) ⌝ }
     ensures { λ r. ⌜ (r .next ≡ nextAt at (backslashOf k (drop at (now (s .entry))))) × (r .value ≡ length (valueIn (backslashOf k (drop at (now (s .entry)))))) ⌝ }
 {
+    let e = break_end(s, at);
+    if e != 0 {
+        return Stride { next: e, value: 0 };
+    }
     if escape_code::letter_at(s, at, end) != 0 {
         return Stride {
             next: at + 2,
             value: 1,
         };
-    }
-    let e = break_end(s, at);
-    if e != 0 {
-        return Stride { next: e, value: 0 };
     }
     if escape_code::x_at(s, at, end, k) != 0 {
         return Stride {
@@ -344,7 +369,7 @@ fn measure(s: &[u8], k: Allowed) -> Measured
             i = t.next;
             continue;
         }
-        let e = plain_end(s, i, k);
+        let e = run_end(s, i, k);
         if e == i {
             return Measured {
                 at: i,

@@ -16,16 +16,16 @@ fn put_piece(out: &mut [u8], s: &[u8], at: usize, end: usize, k: Allowed) -> Str
     requires { ⌜ (getD (now s) at 0 ≡ 92) × ((length (now s) < 4294967296) × (end ≡ length (now s) - lastLen (now s))) × (length (valueIn (backslashOf k (drop at (now s)))) ≤ length (now out)) ⌝ }
     ensures { λ r. ⌜ (r .next ≡ nextAt at (backslashOf k (drop at (now (s .entry))))) × Wrote (valueIn (backslashOf k (drop at (now (s .entry))))) (r .value) (now (out .entry)) (now (out .exit)) ⌝ }
 {
+    let e = body::break_end(s, at);
+    if e != 0 {
+        return Stride { next: e, value: 0 };
+    }
     let l = escape_code::letter_at(s, at, end);
     if l != 0 {
         return Stride {
             next: at + 2,
             value: buffer::put_one(out, l),
         };
-    }
-    let e = body::break_end(s, at);
-    if e != 0 {
-        return Stride { next: e, value: 0 };
     }
     let x = escape_code::x_at(s, at, end, k);
     if x != 0 {

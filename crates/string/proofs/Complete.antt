@@ -18,8 +18,8 @@ use Rattle.body.specs.Step.{close}
 use Rattle.body.specs.Body.{Body, body, rawBody}
 use Rattle.body.specs.Quote.{closing, afterBody, stringOf}
 use Rattle.body.proofs.Strings.{suffix-good, raw-is}
-use Rattle.body.proofs.Complete as pieces
-use Rattle.body.proofs.Exact.{raw-exact}
+use Rattle.body_value.proofs.Complete as pieces
+use Rattle.body_value.proofs.Exact.{raw-exact}
 use Rattle.string.specs.String.{kindOf, offsetOf, allowedIn, openingBy, openingAt, ofQuote, readBy, stringRead, hashesAt, valueBy, stringValue}
 use Rattle.string.specs.Parts.{letterOf, hashes, QuotedParts, RawParts, Tiled, as-quoted, as-raw}
 use Rattle.string.specs.declared.Kind.{Kind}

@@ -22,7 +22,7 @@ use Rattle.body.proofs.Within.{step-in, raw-in}
 use Rattle.body.proofs.Bodies as bodies
 use Rattle.body.proofs.Strings.{suffix-good, suffix-bad}
 use Rattle.body.proofs.Raws.{raw-value}
-use Rattle.body.proofs.Values.{as-it-stands}
+use Rattle.body_value.proofs.Values.{as-it-stands}
 use Rattle.string.specs.String.{offsetOf, allowedIn, openingBy, openingAt, startFault, ofQuote, parsedOf, readBy, stringRead, hashesAt, valueBy, stringValue}
 use Rattle.string.specs.declared.Kind.{Kind}
 use Rattle.string.specs.declared.Kind.the-variants.{Text, Bytes, C}

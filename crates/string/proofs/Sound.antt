@@ -18,8 +18,8 @@ use Rattle.body.specs.Body.{Body, body, rawBody}
 use Rattle.body.specs.Quote.{Quote, closing, suffixed, afterEnd, stringOf, rawFrom, rawAt, rawOf}
 use Rattle.body.specs.Pieces.{RawContent}
 use Rattle.body.proofs.Raws.{raw-value}
-use Rattle.body.proofs.Sound as content
-use Rattle.body.proofs.Exact.{raw-exact}
+use Rattle.body_value.proofs.Sound as content
+use Rattle.body_value.proofs.Exact.{raw-exact}
 use Rattle.string.specs.String.{kindOf, offsetOf, allowedIn, openingBy, openingAt, startFault, ofQuote, readBy, stringRead}
 use Rattle.string.specs.String.{hashesAt, valueBy, stringValue}
 use Rattle.string.specs.Parts.{letterOf, hashes, Tiled, as-quoted, as-raw}

@@ -10,7 +10,7 @@ use Rattle.err.specs.Outcome.{Values, accepted}
 use Rattle.scan.specs.Run.{All}
 use Rattle.scan.specs.Sets.{except}
 use Rattle.utf8.specs.Utf8.{Utf8}
-use Rattle.body.proofs.Contents.{content-no-zero, raw-no-zero, cut-at-ascii, content-utf8}
+use Rattle.body_value.proofs.Contents.{content-no-zero, raw-no-zero, cut-at-ascii, content-utf8}
 use Rattle.string.specs.String.{allowedIn, stringRead, stringValue}
 use Rattle.string.specs.Parts.{letterOf, hashes, Tiled, as-quoted, as-raw}
 use Rattle.string.specs.declared.Kind.{Kind}

@@ -3,17 +3,22 @@
 use borrow.Author.Needs.{needs}
 use borrow.Author.Tests.{eq-eqb, ne-eqb}
 use mathlib.Core.Path.{_≡_, sym, _∙_}
-use Prim.Native.Nat.{_+_, _≤_, _<_}
+use mathlib.Core.Bool.{false}
+use Prim.Native.Nat.{ℕ, _+_, _≤_, _<_}
 use native.Mathlib.Omega.{arith}
 use lib.ListN.{length, getD, drop, length-drop}
 use Rattle.scan.specs.Run.{run}
 use Rattle.scan.proofs.Parts.{part-to-end}
-use Rattle.scan.proofs.Runs.{run-le}
+use Rattle.scan.proofs.Runs.{run-le, run-stop}
 use Rattle.parse.specs.Sets.{blank}
+use Rattle.parse.proofs.Classes.{blank-is}
 use Rattle.body.specs.Stride.{breakEnd}
 use Rattle.body.proofs.Within.{inside}
 use Rattle.body.proofs.break_end.Statement.{statement}
 use Rattle.body.proofs.break_end.Tie as tie
+
+not-blank : (b : ℕ) → 32 < b → blank b ≡ false
+not-blank b h = rw (blank-is b, ne-eqb b 32 (omega arith), ne-eqb b 9 (omega arith), ne-eqb b 10 (omega arith))
 
 abbrev entry : tie.Else1 → tie.Start
 entry b = b .before .before .before
@@ -24,18 +29,34 @@ is-lf b = sym (b .before .byte-at .ensures) ∙ b .if1 .left
 there : (b : tie.Else1) → entry b .args .at + 1 < length (entry b .args .s .now)
 there b = inside (entry b .args .s .now) (entry b .args .at + 1) 10 (is-lf b) (omega arith)
 
+abbrev lf : tie.After-byte-at2 → tie.Else1
+lf b = b .before
+
+-- no blank behind it
+none : (c : tie.Then2) →
+    let a = entry (lf (c .before)) .args in
+    (a .at + 2 < length (a .s .now)) × (a .at + 2 + run blank (drop (a .at + 2) (a .s .now)) ≡ a .at + 2)
+none c =
+    let a = entry (lf (c .before)) .args in
+    let is = c .before .byte-at2 .ensures in
+    let there = inside (a .s .now) (a .at + 2) _ (sym is) (omega (arith, c .if2 .taken)) in
+    (there, run-stop blank (a .s .now) (a .at + 2) there (not-blank _ (omega (arith, is, c .if2 .taken))))
+
+abbrev counted-at : tie.After-blanks-len → tie.Else1
+counted-at c = lf (c .before .before .before)
+
 -- the blanks behind it
 count : (c : tie.After-blanks-len) →
-    let a = entry (c .before .before) .args in
+    let a = entry (counted-at c) .args in
     c .blanks-len .result ≡ run blank (drop (a .at + 2) (a .s .now))
 count c = c .blanks-len .ensures ∙ rw part-to-end
 
 blanks-in : (c : tie.After-blanks-len) →
-    let a = entry (c .before .before) .args in
+    let a = entry (counted-at c) .args in
     a .at + 2 + c .blanks-len .result ≤ length (a .s .now)
 blanks-in c =
-    let a = entry (c .before .before) .args in
-    omega (arith, count c, there (c .before .before), run-le blank (drop (a .at + 2) (a .s .now)), length-drop (a .at + 2) (a .s .now))
+    let a = entry (counted-at c) .args in
+    omega (arith, count c, there (counted-at c), run-le blank (drop (a .at + 2) (a .s .now)), length-drop (a .at + 2) (a .s .now))
 
 add-next : tie.Need-add-next
 add-next c = search needs
@@ -50,11 +71,23 @@ returns c = rw (ne-eqb _ _ (λ e. c .if1 .taken (c .before .byte-at .ensures ∙
 add-from : tie.Need-add-from
 add-from c = search needs
 
+byte-at-requires-2 : tie.Need-byte-at-requires-2
+byte-at-requires-2 c κs = search needs
+
+returns-2 : tie.Need-returns-2
+unfolding breakEnd
+returns-2 c =
+    let b = lf (c .before) in
+    let a = entry b .args in
+    let here = none c in
+    let more : a .at + 2 + run blank (drop (a .at + 2) (a .s .now)) ≡ length (a .s .now) → ⊥ = λ e. omega (arith, here .0, here .1) in
+    rw (eq-eqb _ _ (is-lf b), ne-eqb _ _ more) (omega (arith, here .1))
+
 sub-blanks-len : tie.Need-sub-blanks-len
-sub-blanks-len c = omega (arith, there c)
+sub-blanks-len c = omega (arith, there (lf (c .before)))
 
 part-blanks-len-start : tie.Need-part-blanks-len-start
-part-blanks-len-start c = omega (arith, there c)
+part-blanks-len-start c = omega (arith, there (lf (c .before)))
 
 part-blanks-len-end : tie.Need-part-blanks-len-end
 part-blanks-len-end c = search needs
@@ -63,22 +96,22 @@ blanks-len-requires : tie.Need-blanks-len-requires
 blanks-len-requires c κs = search needs
 
 add-e : tie.Need-add-e
-add-e c = omega (arith, blanks-in c, entry (c .before .before) .good)
-
-returns-2 : tie.Need-returns-2
-unfolding breakEnd
-returns-2 c =
-    let b = c .before .before .before in
-    let a = entry b .args in
-    let all : a .at + 2 + run blank (drop (a .at + 2) (a .s .now)) ≡ length (a .s .now) = omega (arith, count (c .before), c .if2 .taken) in
-    rw (eq-eqb _ _ (is-lf b), eq-eqb _ _ all)
+add-e c = omega (arith, blanks-in c, entry (counted-at c) .good)
 
 returns-3 : tie.Need-returns-3
 unfolding breakEnd
 returns-3 c =
-    let b = c .before .before .before in
+    let b = counted-at (c .before) in
     let a = entry b .args in
-    let more : a .at + 2 + run blank (drop (a .at + 2) (a .s .now)) ≡ length (a .s .now) → ⊥ = λ e. c .if2 .left (omega (arith, count (c .before))) in
+    let all : a .at + 2 + run blank (drop (a .at + 2) (a .s .now)) ≡ length (a .s .now) = omega (arith, count (c .before), c .if3 .taken) in
+    rw (eq-eqb _ _ (is-lf b), eq-eqb _ _ all)
+
+returns-4 : tie.Need-returns-4
+unfolding breakEnd
+returns-4 c =
+    let b = counted-at (c .before) in
+    let a = entry b .args in
+    let more : a .at + 2 + run blank (drop (a .at + 2) (a .s .now)) ≡ length (a .s .now) → ⊥ = λ e. c .if3 .left (omega (arith, count (c .before))) in
     rw (eq-eqb _ _ (is-lf b), ne-eqb _ _ more) (omega (arith, count (c .before)))
 
 pub break-end-spec : {M : Type 1} → statement M
@@ -89,10 +122,12 @@ break-end-spec =
     byte-at-requires
     returns
     add-from
+    byte-at-requires-2
+    returns-2
     sub-blanks-len
     part-blanks-len-start
     part-blanks-len-end
     blanks-len-requires
     add-e
-    returns-2
-    returns-3)
+    returns-3
+    returns-4)

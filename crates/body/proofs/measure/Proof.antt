@@ -68,19 +68,19 @@ longer c =
 
 -- ---- a run
 
-abbrev run-from : tie.After-plain-end Inv-loop μ-loop → tie.At-loop Inv-loop μ-loop
+abbrev run-from : tie.After-run-end Inv-loop μ-loop → tie.At-loop Inv-loop μ-loop
 run-from b = b .before .before .before .before
 
-abbrev so-far : tie.After-plain-end Inv-loop μ-loop → List ℕ
-so-far b = run-from b .loop .inv .0 ++ take (b .plain-end .result - run-from b .loop .i) (drop (run-from b .loop .i) (text (run-from b)))
+abbrev so-far : tie.After-run-end Inv-loop μ-loop → List ℕ
+so-far b = run-from b .loop .inv .0 ++ take (b .run-end .result - run-from b .loop .i) (drop (run-from b .loop .i) (text (run-from b)))
 
-ran : (b : tie.After-plain-end Inv-loop μ-loop) → bodies.Passed (stepOf (kind (run-from b))) (text (run-from b)) (b .plain-end .result) (so-far b)
-ran b = runs.passed-to (stepOf (kind (run-from b))) (plainByte (kind (run-from b))) (runs.plain-step _) _ (run-from b .loop .inv .1) (b .plain-end .ensures)
+ran : (b : tie.After-run-end Inv-loop μ-loop) → bodies.Passed (stepOf (kind (run-from b))) (text (run-from b)) (b .run-end .result) (so-far b)
+ran b = runs.passed-to (stepOf (kind (run-from b))) (plainByte (kind (run-from b))) (runs.plain-step _) _ (run-from b .loop .inv .1) (b .run-end .ensures)
 
-run-counted : (b : tie.After-plain-end Inv-loop μ-loop) → (run-from b .loop .i ≤ b .plain-end .result)
-    × (b .plain-end .result ≤ length (text (run-from b)))
-    × (length (so-far b) ≡ length (run-from b .loop .inv .0) + (b .plain-end .result - run-from b .loop .i))
-run-counted b = runs.counts (plainByte (kind (run-from b))) _ _ (run-from b .loop .inv .0) _ (run-from b .loop .inv .1 .within) (b .plain-end .ensures)
+run-counted : (b : tie.After-run-end Inv-loop μ-loop) → (run-from b .loop .i ≤ b .run-end .result)
+    × (b .run-end .result ≤ length (text (run-from b)))
+    × (length (so-far b) ≡ length (run-from b .loop .inv .0) + (b .run-end .result - run-from b .loop .i))
+run-counted b = runs.counts (plainByte (kind (run-from b))) _ _ (run-from b .loop .inv .0) _ (run-from b .loop .inv .1 .within) (b .run-end .ensures)
 
 last-len-requires : tie.Need-last-len-requires Inv-loop μ-loop
 last-len-requires c κs = search needs
@@ -138,8 +138,8 @@ loop-again c =
     let t = read d .before in
     (turn t .loop .inv .0 ++ value t, onward d .1, longer d)
 
-plain-end-requires : tie.Need-plain-end-requires Inv-loop μ-loop
-plain-end-requires c κs = c .before .before .before .loop .inv .1 .within
+run-end-requires : tie.Need-run-end-requires Inv-loop μ-loop
+run-end-requires c κs = c .before .before .before .loop .inv .1 .within
 
 ending-at-requires-2 : tie.Need-ending-at-requires-2 Inv-loop μ-loop
 ending-at-requires-2 c κs =
@@ -147,7 +147,7 @@ ending-at-requires-2 c κs =
     let o = b .before in
     let a = run-from b in (
       a .before .before .last-len .ensures,
-      strides.other-stops _ (text a) _ (λ e. o .if2 .left (o .before .before .byte-at .ensures ∙ e)) (sym (c .if4 .taken) ∙ b .plain-end .ensures),
+      strides.other-stops _ (text a) _ (λ e. o .if2 .left (o .before .before .byte-at .ensures ∙ e)) (sym (c .if4 .taken) ∙ b .run-end .ensures),
     )
 
 returns-3 : tie.Need-returns-3 Inv-loop μ-loop
@@ -191,7 +191,7 @@ measure-spec =
     add-n
     loop-less
     loop-again
-    plain-end-requires
+    run-end-requires
     ending-at-requires-2
     returns-3
     sub-n

@@ -14,14 +14,14 @@ use Rattle.body_value.proofs.put_piece.Statement.{statement}
 use Rattle.body_value.proofs.put_piece.Tie as tie
 
 -- the call, at each place
-abbrev at-letter : tie.After-letter-at → tie.Start
-at-letter b = b .before .before .before
-
 abbrev at-break : tie.After-break-end → tie.Start
-at-break b = at-letter (b .before .before)
+at-break b = b .before .before .before
+
+abbrev at-letter : tie.After-letter-at → tie.Start
+at-letter b = at-break (b .before .before)
 
 abbrev at-x : tie.After-x-at → tie.Start
-at-x b = at-break (b .before .before)
+at-x b = at-letter (b .before .before)
 
 abbrev at-u : tie.After-u-at → tie.Start
 at-u b = at-x (b .before .before)
@@ -33,17 +33,17 @@ inside : (e : tie.Start) → e .args .at < length (e .args .s .now)
 inside e = strides.at-in (e .args .k) (e .args .s .now) (e .args .at) (e .pre .0)
 
 -- the arms
-letter : (c : tie.Then1) →
+break : (c : tie.Then1) →
+    let a = at-break (c .before) .args in
+    strides.Arm (a .k) (a .s .now) (a .at) (c .before .break-end .result) []
+break c = strides.break-arm _ _ _ (at-break (c .before) .pre .0) _ (c .before .break-end .ensures) (c .if1 .taken)
+
+letter : (c : tie.Then2) →
     let a = at-letter (c .before) .args in
     strides.Arm (a .k) (a .s .now) (a .at) (a .at + 2) (c .before .letter-at .result ∷ [])
 letter c =
     let e = at-letter (c .before) in
-    strides.letter-arm _ _ _ (e .pre .0) _ (e .pre .1 .1) _ (c .before .letter-at .ensures) (c .if1 .taken)
-
-break : (c : tie.Then2) →
-    let a = at-break (c .before) .args in
-    strides.Arm (a .k) (a .s .now) (a .at) (c .before .break-end .result) []
-break c = strides.break-arm _ _ _ (at-break (c .before) .pre .0) _ (c .before .break-end .ensures) (c .if2 .taken)
+    strides.letter-arm _ _ _ (e .pre .0) _ (e .pre .1 .1) _ (c .before .letter-at .ensures) (c .if2 .taken)
 
 by-x : (c : tie.Then3) →
     let a = at-x (c .before) .args in
@@ -70,8 +70,14 @@ coded : (c : tie.Else6) →
     strides.Coded (a .k) (a .s .now) (a .at) (c .before .code-at .result) (a .at + codedLen (c .before .code-at .result))
 coded c = strides.code-arm _ _ _ (at-code (c .before) .pre .0) _ (c .before .code-at .ensures) (c .if6 .left)
 
+break-end-requires : tie.Need-break-end-requires
+break-end-requires c κs = inside (c .before .before)
+
+returns : tie.Need-returns
+returns c = let a = break c in (a .next, strides.written-as (a .value) (nothing _))
+
 letter-at-requires : tie.Need-letter-at-requires
-letter-at-requires c κs = let e = c .before .before in (inside e, omega (arith, e .pre .1 .1))
+letter-at-requires c κs = let e = at-break (c .before) in (inside e, omega (arith, e .pre .1 .1))
 
 add-t14 : tie.Need-add-t14
 add-t14 c = let e = at-letter (c .before) in omega (arith, inside e, e .pre .1 .0)
@@ -82,20 +88,14 @@ put-one-requires c κs = let t = c .before in omega (arith, ap length (letter t 
 same-length : tie.Need-same-length
 same-length c = search needs
 
-returns : tie.Need-returns
-returns c =
+returns-2 : tie.Need-returns-2
+returns-2 c =
     let p = c .before .before in
     let a = letter (p .before .before) in
     (a .next, strides.written-as (a .value) (p .put-one .ensures))
 
-break-end-requires : tie.Need-break-end-requires
-break-end-requires c κs = inside (at-letter (c .before))
-
-returns-2 : tie.Need-returns-2
-returns-2 c = let a = break c in (a .next, strides.written-as (a .value) (nothing _))
-
 x-at-requires : tie.Need-x-at-requires
-x-at-requires c κs = let e = at-break (c .before) in (inside e, omega (arith, e .pre .1 .1))
+x-at-requires c κs = let e = at-letter (c .before) in (inside e, omega (arith, e .pre .1 .1))
 
 add-t18 : tie.Need-add-t18
 add-t18 c = let e = at-x (c .before) in omega (arith, inside e, e .pre .1 .0)
@@ -185,12 +185,12 @@ pub put-piece-spec : {M : Type 1} → statement M
 put-piece-spec =
     tie.close
     (tie.spec
+    break-end-requires
+    returns
     letter-at-requires
     add-t14
     put-one-requires
     same-length
-    returns
-    break-end-requires
     returns-2
     x-at-requires
     add-t18

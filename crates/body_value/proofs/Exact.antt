@@ -17,14 +17,14 @@ use Rattle.utf8.specs.Cut.{Aligned}
 use Rattle.escape.specs.Allows.{unicode, allowNul}
 use Rattle.escape.specs.declared.Allowed.{Allowed}
 use Rattle.escape.specs.declared.Unescaped.the-variants.{Byte}
 use Rattle.body.specs.Step.{close, refuse, Next, piece, stop, plainOf, rawByte, rawStepOf}
 use Rattle.body.specs.Body.{Body, push, body, rawBody}
 use Rattle.body.specs.Pieces.{Content, RawChar, ClosesAt, RawContent}
 use Rattle.body.proofs.Steps as steps
 use Rattle.body.proofs.Within.{raw-in}
 use Rattle.body.proofs.Bodies.{body-stop, body-piece, induct}
-use Rattle.body.proofs.Sound.{sound}
-use Rattle.body.proofs.Complete.{complete}
+use Rattle.body_value.proofs.Sound.{sound}
+use Rattle.body_value.proofs.Complete.{complete}
 
 quote-there : (s : List ℕ) (n : ℕ) → getD s n 0 ≡ 34 → n < length s
 quote-there [] zero e = absurd (omega arith)
