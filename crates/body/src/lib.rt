@@ -273,6 +273,12 @@ pub fn break_end(s: &[u8], at: usize) -> usize
     if b' ' < scan::byte_at(s, from) {
         return from;
     }
+    if parse::is_indented(&s[from..]) {
+        let four = from + 4;
+        if b' ' < scan::byte_at(s, four) {
+            return four;
+        }
+    }
     let e = from + parse::blanks_len(&s[from..]);
     if e == s.len() { 0 } else { e }
 }
