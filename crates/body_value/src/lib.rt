@@ -94,6 +94,21 @@ fn put_run(out: &mut [u8], s: &[u8], from: usize, k: Allowed) -> usize
     n + buffer::put_bytes(&mut out[n..], &s[i..e])
 }
 
+// The same, where a byte before a backslash pays for no loop.
+fn put_next(out: &mut [u8], s: &[u8], from: usize, k: Allowed) -> usize
+    requires { ⌜ (from ≤ length (now s)) × (run (plainByte k) (drop from (now s)) ≤ length (now out)) ⌝ }
+    ensures { λ r. ⌜ Wrote (take (run (plainByte k) (drop from (now (s .entry)))) (drop from (now (s .entry)))) r (now (out .entry)) (now (out .exit)) ⌝ }
+{
+    let next = from + 1;
+    if scan::byte_at(s, next) == b'\\' {
+        let b = s[from];
+        if body::is_plain(b, k) {
+            return buffer::put_one(out, b);
+        }
+    }
+    put_run(out, s, from, k)
+}
+
 // What a quoted body stands for, up to its end, is written to the front of out.
 pub fn write_value(out: &mut [u8], s: &[u8], k: Allowed) -> usize
     requires { ⌜ (length (now s) < 4294967296) × (length (body k (now s) .value) ≤ length (now out)) ⌝ }
@@ -112,7 +127,7 @@ pub fn write_value(out: &mut [u8], s: &[u8], k: Allowed) -> usize
             i = t.next;
             continue;
         }
-        let n = put_run(&mut out[at..], s, i, k);
+        let n = put_next(&mut out[at..], s, i, k);
         if n == 0 {
             return at;
         }

@@ -123,23 +123,23 @@ passed-length : (a : tie.At-loop Inv-loop μ-loop) → length (passed a) ≡ siz
 passed-length a =
     length-take (size a) (drop (a .loop .i) (text a)) ∙ omega (arith, run-le (plainByte (kind a)) (drop (a .loop .i) (text a)))
 
-abbrev wrote : tie.After-slice-known3 Inv-loop μ-loop → tie.After-put-run Inv-loop μ-loop
+abbrev wrote : tie.After-slice-known3 Inv-loop μ-loop → tie.After-put-next Inv-loop μ-loop
 wrote c = c .before .before
 
 abbrev wrote-at : tie.After-slice-known3 Inv-loop μ-loop → tie.At-loop Inv-loop μ-loop
 wrote-at c = run-from (wrote c .before .before)
 
-counted : (c : tie.After-slice-known3 Inv-loop μ-loop) → wrote c .put-run .result ≡ size (wrote-at c)
-counted c = wrote c .put-run .ensures .count ∙ passed-length (wrote-at c)
+counted : (c : tie.After-slice-known3 Inv-loop μ-loop) → wrote c .put-next .result ≡ size (wrote-at c)
+counted c = wrote c .put-next .ensures .count ∙ passed-length (wrote-at c)
 
 ended-2 : (c : tie.Then3 Inv-loop μ-loop) →
     let a = wrote-at (c .before) in
-    Wrote (body (kind a) (text a) .value) (a .loop .at) (lent a) (putMid (a .loop .at) (length (a .loop .out) - a .loop .at) (a .loop .out) (wrote (c .before) .put-run .last .0))
+    Wrote (body (kind a) (text a) .value) (a .loop .at) (lent a) (putMid (a .loop .at) (length (a .loop .out) - a .loop .at) (a .loop .out) (wrote (c .before) .put-next .last .0))
 ended-2 c =
     let b = c .before in
     let a = wrote-at b in
     let o = wrote b .before .before in
-    let w = wrote b .put-run .ensures in
+    let w = wrote b .put-next .ensures in
     let z : size a ≡ 0 = omega (arith, counted b, c .if3 .taken) in
     strides.written-none (further a (passed a) (ran a) _ _ w) (w .count)
     (ap (λ (n : ℕ). take n (drop (a .loop .i) (text a))) z ∙ take-none (drop (a .loop .i) (text a)))
@@ -194,17 +194,17 @@ loop-again c =
     let t = piece-at b in
     (so-far (turn t) ++ value t, onward (c .before) .1, further (turn t) (value t) (stride t .1) _ _ (piece b .put-piece .ensures .1))
 
-sub-put-run : tie.Need-sub-put-run Inv-loop μ-loop
-sub-put-run c = behind (run-from c)
+sub-put-next : tie.Need-sub-put-next Inv-loop μ-loop
+sub-put-next c = behind (run-from c)
 
-part-put-run-start : tie.Need-part-put-run-start Inv-loop μ-loop
-part-put-run-start c = behind (run-from c)
+part-put-next-start : tie.Need-part-put-next-start Inv-loop μ-loop
+part-put-next-start c = behind (run-from c)
 
-part-put-run-end : tie.Need-part-put-run-end Inv-loop μ-loop
-part-put-run-end c = search needs
+part-put-next-end : tie.Need-part-put-next-end Inv-loop μ-loop
+part-put-next-end c = search needs
 
-put-run-requires : tie.Need-put-run-requires Inv-loop μ-loop
-put-run-requires c κs =
+put-next-requires : tie.Need-put-next-requires Inv-loop μ-loop
+put-next-requires c κs =
     let a = run-from (c .before) in
     (a .loop .inv .1 .within, laws.room _ (a .loop .inv .2) (omega (arith, fits a (passed a) (ran a), passed-length a)))
 
@@ -218,7 +218,7 @@ add-at-2 : tie.Need-add-at-2 Inv-loop μ-loop
 add-at-2 c =
     let b = c .before in
     let a = wrote-at b in
-    omega (arith, counts a (passed a) (ran a) _ _ (wrote b .put-run .ensures), entry a .good)
+    omega (arith, counts a (passed a) (ran a) _ _ (wrote b .put-next .ensures), entry a .good)
 
 add-i : tie.Need-add-i Inv-loop μ-loop
 add-i c = let a = wrote-at (c .before) in omega (arith, ran a .within, counted (c .before), entry a .good)
@@ -232,7 +232,7 @@ loop-again-2 c =
     let a = wrote-at b in (
       so-far a ++ passed a,
       subst (λ (n : ℕ). bodies.Passed (stepOf (kind a)) (text a) (a .loop .i + n) (so-far a ++ passed a)) (sym (counted b)) (ran a),
-      further a (passed a) (ran a) _ _ (wrote b .put-run .ensures),
+      further a (passed a) (ran a) _ _ (wrote b .put-next .ensures),
     )
 
 pub write-value-spec : {M : Type 1} → statement M
@@ -254,10 +254,10 @@ write-value-spec =
     add-at
     loop-less
     loop-again
-    sub-put-run
-    part-put-run-start
-    part-put-run-end
-    put-run-requires
+    sub-put-next
+    part-put-next-start
+    part-put-next-end
+    put-next-requires
     same-length-2
     returns-2
     add-at-2
