@@ -12,6 +12,7 @@ use lib.ListN.{length, getD, take, drop, length-take, length-drop}
 use lib.Seq.{drop-cons, drop-drop, getD-drop, getD-take}
 use Rattle.scan.specs.Run.{run}
 use Rattle.scan.proofs.Cases.{cond-in, cond-lt, cond-eq}
+use Rattle.scan.proofs.Bytes.{byte-inside}
 use Rattle.parse.specs.Class.{classOf}
 use Rattle.parse.specs.Sets.{blank}
 use Rattle.utf8.specs.Cut.{tail, isBoundary, lastLen, front}
@@ -26,7 +27,6 @@ use Rattle.escape_code.proofs.Codes.{Coded, code-len, code-value, EscapeCoded, 
 use Rattle.body.specs.Step.{Next, piece, stop, ofEscape, lineBreakOf, backslashOf, plainOf, stepOf}
 use Rattle.body.specs.Code.{nextCode, codeOf}
 use Rattle.body.proofs.Steps as steps
-use Rattle.body.proofs.Within.{inside}
 
 -- ---- what a code tells
 
@@ -141,7 +141,7 @@ module _ (k : Allowed) (s : List ℕ) (i : ℕ) where
         pub at-blanks : (i + 2 + n ≡ length s → ⊥) → (n + 2) * 4294967296 ≡ codeOf k (drop i s)
         unfolding pieceCode
         at-blanks g =
-            let h = inside s (i + 1) 10 f (omega arith) in
+            let h = byte-inside s (i + 1) 10 f (omega arith) in
             sym (add-zero ((n + 2) * 4294967296))
             ∙ ap nextCode (steps.break-drops (drop (i + 2) s) n is (λ x. g (omega (arith, length-drop (i + 2) s))))
             ∙ at-break

@@ -10,6 +10,7 @@ use lib.Dec.{eqb, ltb}
 use lib.ListN.{length, getD, take, drop, length-take, length-drop}
 use lib.Seq.{drop-drop, getD-drop, getD-take}
 use Rattle.scan.specs.Run.{run, Stops}
+use Rattle.scan.proofs.Bytes.{byte-inside}
 use Rattle.buffer.specs.Buffer.{Wrote}
 use Rattle.parse.specs.Sets.{blank}
 use Rattle.utf8.specs.Cut.{lastLen}
@@ -25,7 +26,7 @@ use Rattle.body.specs.Step.{Next, piece, stop, ofEscape, backslashOf, pl
 use Rattle.body.specs.Code.{nextCode, codeOf, Stopped}
 use Rattle.body.specs.Stride.{nextAt, valueIn, breakEnd}
 use Rattle.body.proofs.Steps as steps
-use Rattle.body.proofs.Within.{NextIn, inside, step-in}
+use Rattle.body.proofs.Within.{NextIn, step-in}
 use Rattle.body.proofs.Bodies as bodies
 use Rattle.body.proofs.Runs.{plain-stops, behind-run}
 use Rattle.body.proofs.Codes as codes
@@ -53,7 +54,7 @@ module _ {k : Allowed} {s : List ℕ} {i c t : ℕ} (h : Coded k s i c t) {u : U
 
 module _ (k : Allowed) (s : List ℕ) (i : ℕ) (e : getD s i 0 ≡ 92) where
   pub at-in : i < length s
-  at-in = inside s i 92 e (omega arith)
+  at-in = byte-inside s i 92 e (omega arith)
 
   is-piece : (n : ℕ) (u : Unescaped) → backslashOf k (drop i s) ≡ piece n u → Arm k s i (i + n) (bytesOf u)
   is-piece n u h = record { next = rw h; value = rw h }
@@ -69,7 +70,7 @@ module _ (k : Allowed) (s : List ℕ) (i : ℕ) (e : getD s i 0 ≡ 92) where
           let n = run blank (drop (i + 2) s) in
           let f = eqb-true (getD s (i + 1) 0) 10 p in
           let g = eqb-false (i + 2 + n) (length s) q in
-          let there = inside s (i + 1) 10 f (omega arith) in
+          let there = byte-inside s (i + 1) 10 f (omega arith) in
           let t-is : t ≡ i + (n + 2) = omega arith in
           rw t-is (is-piece (n + 2) Nothing (sym
           (steps.break-drops (drop (i + 2) s) n refl (λ x. g (omega (arith, length-drop (i + 2) s)))

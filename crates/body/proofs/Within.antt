@@ -7,12 +7,13 @@ use Prim.Native.Nat.{ℕ, _+_, _≤_, _<_}
 use native.Mathlib.Omega.{arith}
 use borrow.Author.Tests.{leb-true}
 use lib.Dec.{eqb, ltb, leb}
-use lib.ListN.{length, getD, drop, length-drop, List·getD-eq-default}
+use lib.ListN.{length, getD, drop, length-drop}
 use Rattle.err.specs.Outcome.{none, between, RefusedIn}
 use Rattle.scan.specs.Run.{run}
 use Rattle.scan.specs.Sets.{only}
 use Rattle.scan.proofs.Cases.{cond-in, cond-eq, by-lt}
 use Rattle.scan.proofs.Runs.{run-le}
+use Rattle.scan.proofs.Bytes.{byte-inside}
 use Rattle.parse.specs.Sets.{blank}
 use Rattle.utf8.specs.Cut.{front}
 use Rattle.utf8.proofs.Cuts.{front-length}
@@ -44,10 +45,6 @@ break-in s m h =
     cond-in (NextIn 1 m) (eqb (run blank s) (length s)) (λ e. (omega arith, omega arith, tt))
     λ e. (omega arith, omega (arith, run-le blank s), omega arith, tt)
 
--- a byte other than 0 stands in the text
-pub inside : (s : List ℕ) (i b : ℕ) → getD s i 0 ≡ b → 0 < b → i < length s
-inside s i b e h = by-lt i (length s) (λ l. l) (λ l. absurd (omega (arith, List·getD-eq-default s 0 l)))
-
 of-escape-in : (m n : ℕ) (e : Escaped) → 0 < m → m ≤ n → EscapeIn m e → NextIn 1 n (ofEscape e)
 of-escape-in m n (value u l) p h (a, b, c, d) = (a, omega arith, omega arith, d)
 of-escape-in m n (bad num none) p h r = r p
@@ -57,7 +54,7 @@ backslash-in : (k : Allowed) (s : List ℕ) → 0 < length s → NextIn 1 (lengt
 unfolding backslashOf
 backslash-in k s h =
     let P : Next → Type 0 = NextIn 1 (length s) in
-    cond-eq P (getD s 1 0) 10 (λ e. break-in (drop 2 s) (length s) (omega (arith, inside s 1 10 e (omega arith), length-drop 2 s))) λ e.
+    cond-eq P (getD s 1 0) 10 (λ e. break-in (drop 2 s) (length s) (omega (arith, byte-inside s 1 10 e (omega arith), length-drop 2 s))) λ e.
     by-lt 0 (length (front s))
     (λ p. of-escape-in (length (front s)) (length s) (escapeOf k (front s)) p (omega (arith, front-length s)) (escape-in k (front s)))
     (λ p. subst (λ (x : Escaped). P (ofEscape x)) (too-short k (front s) (omega arith)) (omega arith))

@@ -4,12 +4,12 @@ use mathlib.Core.Path.{_≡_, sym, ap, _∙_}
 use native.Mathlib.Omega.{arith}
 use lib.Seq.{length-take-le}
 use lib.ListN.{getD}
+use Rattle.scan.proofs.Bytes.{byte-inside}
 use Rattle.utf8.specs.Cut.{front}
 use Rattle.utf8.proofs.Cuts.{last-le}
 use Rattle.escape.specs.Escape.{escapedOf, escapeOf}
 use Rattle.body.specs.Step.{ofEscape}
 use Rattle.body.proofs.Steps as steps
-use Rattle.body.proofs.Within.{inside}
 use borrow.Author.Needs.{needs}
 use Rattle.body.proofs.backslash.Statement.{statement}
 use Rattle.body.proofs.backslash.Tie as tie
@@ -24,7 +24,7 @@ byte-at-requires : tie.Need-byte-at-requires
 byte-at-requires c κs = search needs
 
 line-break-requires : tie.Need-line-break-requires
-line-break-requires c κs = inside (c .before .before .before .args .s .now) 1 10 (sym (c .before .byte-at .ensures) ∙ c .if1 .taken) (omega arith)
+line-break-requires c κs = byte-inside (c .before .before .before .args .s .now) 1 10 (sym (c .before .byte-at .ensures) ∙ c .if1 .taken) (omega arith)
 
 returns : tie.Need-returns
 returns c = c .line-break .ensures ∙ steps.is-break _ _ (sym (c .before .before .byte-at .ensures) ∙ c .before .if1 .taken)

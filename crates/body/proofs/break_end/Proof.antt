@@ -14,11 +14,11 @@ use Rattle.scan.specs.Run.{run}
 use Rattle.scan.specs.Sets.{only}
 use Rattle.scan.proofs.Parts.{part-to-end}
 use Rattle.scan.proofs.Runs.{run-le, run-stop}
+use Rattle.scan.proofs.Bytes.{byte-inside}
 use Rattle.parse.specs.Sets.{blank}
 use Rattle.parse.proofs.Classes.{blank-is}
 use Rattle.parse.proofs.Indents.{indent-blanks}
 use Rattle.body.specs.Stride.{breakEnd}
-use Rattle.body.proofs.Within.{inside}
 use Rattle.body.proofs.break_end.Statement.{statement}
 use Rattle.body.proofs.break_end.Tie as tie
 
@@ -38,7 +38,7 @@ is-lf : (b : tie.Else1) → getD (entry b .args .s .now) (entry b .args .at + 1)
 is-lf b = sym (b .before .byte-at .ensures) ∙ b .if1 .left
 
 there : (b : tie.Else1) → entry b .args .at + 1 < length (entry b .args .s .now)
-there b = inside (entry b .args .s .now) (entry b .args .at + 1) 10 (is-lf b) (omega arith)
+there b = byte-inside (entry b .args .s .now) (entry b .args .at + 1) 10 (is-lf b) (omega arith)
 
 abbrev lf : tie.After-byte-at2 → tie.Else1
 lf b = b .before
@@ -50,7 +50,7 @@ none : (c : tie.Then2) →
 none c =
     let a = entry (lf (c .before)) .args in
     let is = c .before .byte-at2 .ensures in
-    let there = inside (a .s .now) (a .at + 2) _ (sym is) (omega (arith, c .if2 .taken)) in
+    let there = byte-inside (a .s .now) (a .at + 2) _ (sym is) (omega (arith, c .if2 .taken)) in
     (there, run-stop blank (a .s .now) (a .at + 2) there (not-blank _ (omega (arith, is, c .if2 .taken))))
 
 -- an indent behind it
@@ -64,7 +64,7 @@ indented c =
     let w = c .before .before .before in
     let a = entry (other (w .before .before)) .args in
     let is = c .before .byte-at3 .ensures in
-    let there = inside (a .s .now) (a .at + 2 + 4) _ (sym is) (omega (arith, c .if4 .taken)) in
+    let there = byte-inside (a .s .now) (a .at + 2 + 4) _ (sym is) (omega (arith, c .if4 .taken)) in
     let four : leb 4 (run (only 32) (drop (a .at + 2) (a .s .now))) ≡ true = rw part-to-end at (sym (w .is-indented .ensures) ∙ c .before .before .if3 .taken) in
     (there, after-indent (a .s .now) (a .at + 2) four there (omega (arith, is, c .if4 .taken)))
 

@@ -6,12 +6,13 @@ use mathlib.Core.List.{List, [], _++_}
 use Prim.Native.Nat.{ℕ, _≤_, _<_, _-_, _+_}
 use native.Mathlib.Omega.{arith}
 use lib.ListN.{length, getD, take, drop, length-append}
+use Rattle.scan.proofs.Bytes.{byte-inside}
 use Rattle.utf8.proofs.Cuts.{last-le}
 use Rattle.escape.specs.declared.Allowed.{Allowed}
 use Rattle.body.specs.Step.{backslashOf, stepOf, plainByte}
 use Rattle.body.specs.Stride.{valueIn}
 use Rattle.body.proofs.Steps as steps
-use Rattle.body.proofs.Within.{inside, step-in}
+use Rattle.body.proofs.Within.{step-in}
 use Rattle.body.proofs.Bodies as bodies
 use Rattle.body.proofs.Runs as runs
 use Rattle.body.proofs.Strides as strides
@@ -107,7 +108,7 @@ returns : tie.Need-returns Inv-loop μ-loop
 returns c =
     let a = c .before .before in
     let e : getD (text a) (a .loop .i) 0 ≡ 34 = sym (c .before .byte-at .ensures) ∙ c .if1 .taken in
-    bodies.measures _ 1 (step-in _) (a .loop .inv .1) _ (sym (steps.at-quote _ (text a) _ (inside (text a) _ 34 e (omega arith)) e)) _ refl (a .loop .inv .2) refl
+    bodies.measures _ 1 (step-in _) (a .loop .inv .1) _ (sym (steps.at-quote _ (text a) _ (byte-inside (text a) _ 34 e (omega arith)) e)) _ refl (a .loop .inv .2) refl
 
 stride-at-requires : tie.Need-stride-at-requires Inv-loop μ-loop
 stride-at-requires c κs = let a = turn c in (slash c, (entry a .pre, rw (a .before .before .last-len .ensures)))

@@ -10,9 +10,9 @@ use lib.ListN.{length, getD, take, drop}
 use lib.Seq.{drop-cons}
 use Rattle.scan.specs.Run.{run}
 use Rattle.scan.proofs.Runs.{run-more, run-stop}
+use Rattle.scan.proofs.Bytes.{byte-inside}
 use Rattle.escape.specs.declared.Allowed.{Allowed}
 use Rattle.body.specs.Step.{plainByte}
-use Rattle.body.proofs.Within.{inside}
 use Rattle.body.proofs.Strides.{written-as}
 use Rattle.body_value.proofs.put_next.Statement.{statement}
 use Rattle.body_value.proofs.put_next.Tie as tie
@@ -20,7 +20,7 @@ use Rattle.body_value.proofs.put_next.Tie as tie
 -- a byte that stands for itself before a backslash is a run
 module _ (k : Allowed) (s : List ℕ) (i : ℕ) (b : getD s (i + 1) 0 ≡ 92) where
   there : i + 1 < length s
-  there = inside s (i + 1) 92 b (omega arith)
+  there = byte-inside s (i + 1) 92 b (omega arith)
 
   one : plainByte k (getD s i 0) ≡ true → run (plainByte k) (drop i s) ≡ 1
   unfolding plainByte

@@ -7,9 +7,9 @@ use Prim.Native.Nat.{ℕ, _+_, _-_, _<_}
 use native.Mathlib.Omega.{arith}
 use borrow.Author.Tests.{leb-true, leb-false}
 use lib.ListN.{length, getD, take, drop}
+use Rattle.scan.proofs.Bytes.{byte-inside}
 use Rattle.body.specs.Step.{rawStepOf}
 use Rattle.body.proofs.Steps as steps
-use Rattle.body.proofs.Within.{inside}
 use Rattle.body.proofs.Bodies.{Passed}
 use Rattle.body.proofs.Raws.{raw-start, raw-more, raw-measures}
 use Rattle.raw.specs.Scan.{markOf, rawRun}
@@ -41,7 +41,7 @@ quote : (c : tie.Else1 Inv-loop μ-loop) → getD (text (c .before .before)) (at
 quote c = sym (c .before .byte-at .ensures) ∙ c .if1 .left
 
 quote-inside : (c : tie.Else1 Inv-loop μ-loop) → at (c .before .before) < length (text (c .before .before))
-quote-inside c = inside (text (c .before .before)) _ 34 (quote c) (omega arith)
+quote-inside c = byte-inside (text (c .before .before)) _ 34 (quote c) (omega arith)
 
 closing-mark-requires : tie.Need-closing-mark-requires Inv-loop μ-loop
 closing-mark-requires c κs = search needs
