@@ -2,9 +2,9 @@
 -- Assumes nothing.
 use mathlib.Core.Path.{_≡_, refl, subst}
 use mathlib.Core.Bool.{Bool, true, false, cond}
-use mathlib.Core.List.{List}
+use mathlib.Core.Logic.{inl, inr}
+use mathlib.Core.List.{List, [], _∷_}
 use Prim.Native.Nat.{ℕ, _≤_, _<_}
-use native.Mathlib.Omega.{arith}
 use borrow.Author.Tests.{leb-true, le-leb, lt-leb}
 use lib.Dec.{eqb, leb}
 use lib.ListN.{length}
@@ -17,12 +17,14 @@ use Rattle.string.specs.Decode.{Decode, written, withheld, ofReading, stringDec
 use Rattle.string.specs.declared.Kind.{Kind}
 use Rattle.string.specs.declared.Kind.the-variants.{Text, Bytes, C}
 use Rattle.string.proofs.Refused.{refused-in}
+use Rattle.string.proofs.Values.{value-short}
 use Rattle.literal.specs.Checks.{textFault}
 use Rattle.literal.specs.Decodes.{checkedDecode, checkedBuffer, kindCoded, decodeBy, bufferBy, decodeAt, bufferAt}
 use Rattle.literal.specs.declared.KindFound.{KindFound}
 use Rattle.literal.specs.declared.KindFound.the-variants as found
-use Rattle.literal.proofs.Checks.{long-fault, utf8-fault, no-fault, fault-most}
+use Rattle.literal.proofs.Checks.{long-fault, utf8-fault, no-fault}
 use Rattle.demands.specs.Demand1.{Readable, Decodes, DecodeAnswered, DecodeAnswers}
+use Rattle.demands.proofs.Numbered.{text-refused, or-42}
 
 -- ---- codes
 
@@ -52,13 +54,16 @@ decode-answered k have s = go (stringRead k s) refl
     v = stringValue k s
 
     go : (o : Outcome) → stringRead k s ≡ o → DecodeAnswered (length s) have (ofReading o v have)
-    go (refused n p) h = let r = refused-in k s h in (r .0, omega arith, r .2)
-    go (accepted kind e vs) h = cond-in (DecodeAnswered (length s) have) (leb (length v) have) (λ t. leb-true (length v) have t) (λ t. omega arith)
+    go (refused n p) h = inl (refused-in k s h)
+    go (accepted kind e vs) h =
+        cond-in (DecodeAnswered (length s) have) (leb (length v) have) (λ t. (leb-true (length v) have t, value-short k s h))
+        (λ t. inr (inr (inr (inr (inl refl))), refl))
 
 checked-answered : (k : Kind) (have : ℕ) (s : List ℕ) → DecodeAnswered (length s) have (checkedDecode k s have)
 unfolding checkedDecode
 checked-answered k have s =
-    cond-eq (DecodeAnswered (length s) have) (textFault s) 0 (λ z. decode-answered k have s) (λ z. let m = fault-most s in omega arith)
+    cond-eq (DecodeAnswered (length s) have) (textFault s) 0 (λ z. decode-answered k have s)
+    (λ z. or-42 (length s) (43 ∷ 44 ∷ 48 ∷ []) (textFault s) none (text-refused (length s) s (48 ∷ []) z))
 
 answered : (code have : ℕ) (s : List ℕ) → DecodeAnswered (length s) have (decodeAt code s have)
 unfolding decodeAt
@@ -66,7 +71,7 @@ answered code have s = go (kindCoded code)
   where
     go : (f : KindFound) → DecodeAnswered (length s) have (decodeBy f s have)
     go (found.Kind k) = checked-answered k have s
-    go found.Nothing = omega arith
+    go found.Nothing = inr (inl refl, refl)
 
 -- ---- how
 

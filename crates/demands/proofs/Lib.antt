@@ -1,4 +1,5 @@
 pub mod Marked
+pub mod Numbered
 pub mod ReadCall
 pub mod ValueCall
 pub mod DecodeCall

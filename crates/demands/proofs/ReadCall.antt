@@ -1,39 +1,52 @@
 -- Reading answers every code and every text.
 -- Assumes nothing.
 use mathlib.Core.Path.{_≡_, refl}
-use mathlib.Core.List.{List}
+use mathlib.Core.Logic.{inl, inr}
+use mathlib.Core.List.{List, [], _∷_}
 use Prim.Native.Nat.{ℕ, _≤_}
 use native.Mathlib.Omega.{arith}
-use borrow.Author.Tests.{leb-true}
-use lib.Dec.{leb}
+use borrow.Author.Tests.{le-leb}
 use lib.ListN.{length}
 use Rattle.err.specs.Outcome.{Outcome, refused, accepted}
-use Rattle.scan.proofs.Cases.{cond-in, cond-eq}
+use Rattle.scan.proofs.Cases.{cond-eq, by-lt}
 use Rattle.utf8.specs.Utf8.{Utf8}
 use Rattle.literal.specs.Checks.{textFault}
 use Rattle.literal.specs.Readings.{entryRead, readAt}
-use Rattle.literal.proofs.Checks.{fault-passed, fault-most}
+use Rattle.literal.proofs.Checks.{fault-passed}
 use Rattle.literal.proofs.Inside.{entry-inside, start-inside}
 use Rattle.literal.proofs.Refusals.{entry-refused}
 use Rattle.literal.proofs.Answers.{read-bad, read-long, read-not-utf8, read-own, entry-accepted}
-use Rattle.demands.specs.Demand1.{Answered, ReadAnswers}
+use Rattle.demands.specs.Demand1.{Numbered, Answered, ReadAnswers}
+use Rattle.demands.proofs.Numbered.{text-refused, or-42}
 
-entry-answered : (code : ℕ) (s : List ℕ) → code ≤ 8 → Utf8 s → Answered (length s) (entryRead code s)
-entry-answered code s c u = go (entryRead code s) refl
-  where
-    go : (o : Outcome) → entryRead code s ≡ o → Answered (length s) o
-    go (refused n p) h = let r = entry-refused code s c h in (r .0, omega arith, r .2)
-    go (accepted k e vs) h =
-        let a = entry-accepted code s c h in
-        (a .0, a .1, start-inside s e vs (entry-inside code s u c h .0))
+-- the answers of a code from 0 to 8: no 42. A call that goes on from there adds more
+abbrev pub Coded : List ℕ → ℕ → Outcome → Type 0
+Coded more m (accepted k e vs) = Answered m (accepted k e vs)
+Coded more m (refused n p) = Numbered m (43 ∷ 44 ∷ more) n p
+
+module _ (more : List ℕ) (code : ℕ) (s : List ℕ) (c : code ≤ 8) where
+  entry-coded : Utf8 s → Coded more (length s) (entryRead code s)
+  entry-coded u = go (entryRead code s) refl
+    where
+      go : (o : Outcome) → entryRead code s ≡ o → Coded more (length s) o
+      go (refused n p) h = inl (entry-refused code s c h)
+      go (accepted k e vs) h =
+          let a = entry-accepted code s c h in
+          let i = entry-inside code s u c h in
+          (a .0, a .1, start-inside s e vs (i .0), i .2)
+
+  pub coded : Coded more (length s) (readAt code s)
+  unfolding readAt
+  coded =
+      rw (le-leb code 8 c)
+      (cond-eq (Coded more (length s)) (textFault s) 0 (λ z. entry-coded (fault-passed s z .1)) (λ z. text-refused (length s) s more z))
 
 answered : (code : ℕ) (s : List ℕ) → Answered (length s) (readAt code s)
-unfolding readAt
-answered code s =
-    cond-in (Answered (length s)) (leb code 8)
-    (λ c. cond-eq (Answered (length s)) (textFault s) 0 (λ z. entry-answered code s (leb-true code 8 c) (fault-passed s z .1))
-    (λ z. let m = fault-most s in omega arith))
-    (λ c. omega arith)
+answered code s = by-lt 8 code (λ h. rw (read-bad code s h) (inr (inl refl, refl))) (λ c. go (readAt code s) (coded [] code s c))
+  where
+    go : (o : Outcome) → Coded [] (length s) o → Answered (length s) o
+    go (refused n p) h = or-42 (length s) (43 ∷ 44 ∷ []) n p h
+    go (accepted k e vs) h = h
 
 pub read-answers : ReadAnswers
 read-answers =
@@ -43,4 +56,5 @@ read-answers =
       too-long = read-long;
       not-utf8 = read-not-utf8;
       own = λ code s c f. read-own code s c (f .short) (f .utf8);
+      own-number = entry-refused;
     }

@@ -1,13 +1,14 @@
 -- Settling, measuring and the entry for C answer every text.
 -- Assumes nothing.
 use mathlib.Core.Path.{_≡_, refl, ap, _∙_, sym}
-use mathlib.Core.List.{List}
+use mathlib.Core.Logic.{inl, inr}
+use mathlib.Core.List.{List, [], _∷_}
 use Prim.Native.Nat.{ℕ, _+_, _≤_}
 use native.Mathlib.Omega.{arith}
 use borrow.Author.Tests.{leb-true, le-leb}
 use lib.Dec.{leb}
 use lib.ListN.{length, drop}
-use Rattle.err.specs.Outcome.{Place, Outcome, refused, accepted}
+use Rattle.err.specs.Outcome.{Place, none, Outcome, refused, accepted}
 use Rattle.scan.proofs.Cases.{cond-in, cond-eq}
 use Rattle.buffer.specs.Buffer.{over}
 use Rattle.grammar.specs.Meaning.{Worth}
@@ -19,8 +20,8 @@ use Rattle.bare_form.specs.Worths.{worthOf}
 use Rattle.settle.specs.Settled.{Settle, formed, withheld, measured, measureOf, measureAt, fitted, settleAt, formBy, formAt, bufferAt}
 use Rattle.integer.specs.Value.{Valued}
 use Rattle.desk.specs.Code.{readingNumbers, valueCode, valueAfter, decodeCode, codeOf}
-use Rattle.demands.specs.Demand1.{Answered, SettleAnswered, SettleAnswers, NumberAnswers}
-use Rattle.demands.proofs.ReadCall.{read-answers}
+use Rattle.demands.specs.Demand1.{SettleAnswered, SettleAnswers, NumberAnswers}
+use Rattle.demands.proofs.ReadCall.{Coded, coded}
 
 -- ---- the measure
 
@@ -29,33 +30,42 @@ abbrev Measure : ℕ → List ℕ → Settle → Type 0
 Measure m f (formed k n) = (1 ≤ k) × (k ≤ 8) × (n ≤ 65536) × (n ≡ length f)
 Measure m f (withheld n p) = SettleAnswered m 0 (withheld n p)
 
-fault-most : (w : Worth) → (faultOf w ≡ 0 → ⊥) → (1 ≤ faultOf w) × (faultOf w ≤ 48)
-fault-most w no-zero = (omega (arith, no-zero), most w)
+-- 45 or 46
+fault-is : (m : ℕ) (w : Worth) → (faultOf w ≡ 0 → ⊥) → SettleAnswered m 0 (withheld (faultOf w) none)
+fault-is m = go
   where
-    most : (w : Worth) → faultOf w ≤ 48
-    most (worth.integer n) = cond-in (λ (f : ℕ). f ≤ 48) (leb n 18446744073709551615) (λ e. omega arith) (λ e. omega arith)
-    most (worth.float d) = cond-in (λ (f : ℕ). f ≤ 48) (leb (reduce d .up + reduce d .down) 1000000) (λ e. omega arith) (λ e. omega arith)
-    most (worth.bool b) = omega arith
-    most (worth.char c) = omega arith
-    most (worth.string v) = omega arith
-    most (worth.byte b) = omega arith
-    most (worth.byte-string v) = omega arith
-    most (worth.c-string v) = omega arith
+    P : ℕ → Type 0
+    P f = (f ≡ 0 → ⊥) → SettleAnswered m 0 (withheld f none)
+
+    go : (w : Worth) → P (faultOf w)
+    go (worth.integer n) = cond-in P (leb n 18446744073709551615) (λ e z. absurd (z refl)) (λ e z. inr (inr (inr (inl refl)), refl))
+    go (worth.float d) =
+        cond-in P (leb (reduce d .up + reduce d .down) 1000000) (λ e z. absurd (z refl)) (λ e z. inr (inr (inr (inr (inl refl))), refl))
+    go (worth.bool b) = λ z. absurd (z refl)
+    go (worth.char c) = λ z. absurd (z refl)
+    go (worth.string v) = λ z. absurd (z refl)
+    go (worth.byte b) = λ z. absurd (z refl)
+    go (worth.byte-string v) = λ z. absurd (z refl)
+    go (worth.c-string v) = λ z. absurd (z refl)
 
 measured-is : (m k : ℕ) (w : Worth) (x : List ℕ) → 1 ≤ k → k ≤ 8 → Measure m (formOf w x) (measured k w x)
 unfolding measured
 measured-is m k w x a b =
     let P : Settle → Type 0 = Measure m (formOf w x) in
     cond-eq P (faultOf w) 0
-    (λ z. cond-in P (leb (length (formOf w x)) 65536) (λ t. (a, b, leb-true (length (formOf w x)) 65536 t, refl)) (λ t. (omega arith, omega arith, tt)))
-    (λ z. let f = fault-most w z in (f .0, f .1, tt))
+    (λ z. cond-in P (leb (length (formOf w x)) 65536) (λ t. (a, b, leb-true (length (formOf w x)) 65536 t, refl))
+    (λ t. inr (inr (inr (inr (inr (inl refl)))), refl)))
+    (fault-is m w)
 
 measure-is : (s : List ℕ) → Measure (length s) (formAt s) (measureAt s)
 unfolding measureAt formAt
-measure-is s = go (readAt 0 s) (read-answers .answered 0 s)
+measure-is s = go (readAt 0 s) (coded more 0 s (omega arith))
   where
-    go : (o : Outcome) → Answered (length s) o → Measure (length s) (formBy s o) (measureOf s o)
-    go (refused n p) h = (h .0, omega (arith, h .1), h .2)
+    more : List ℕ
+    more = 45 ∷ 46 ∷ 47 ∷ 48 ∷ []
+
+    go : (o : Outcome) → Coded more (length s) o → Measure (length s) (formBy s o) (measureOf s o)
+    go (refused n p) h = h
     go (accepted k e vs) h = measured-is (length s) k (worthOf k s vs) (drop e s) (h .0) (h .1)
 
 -- ---- settling
@@ -66,7 +76,8 @@ answered have s = go (measureAt s) (measure-is s)
   where
     go : (x : Settle) → Measure (length s) (formAt s) x → SettleAnswered (length s) have (fitted have x)
     go (formed k n) h =
-        cond-in (SettleAnswered (length s) have) (leb n have) (λ t. (h .0, h .1, leb-true n have t, h .2)) (λ t. (omega arith, omega arith, tt))
+        cond-in (SettleAnswered (length s) have) (leb n have) (λ t. (h .0, h .1, leb-true n have t, h .2))
+        (λ t. inr (inr (inr (inr (inr (inr (inl refl))))), refl))
     go (withheld n p) h = h
 
 own : (have : ℕ) (s : List ℕ) {n : ℕ} {p : Place} → readAt 0 s ≡ refused n p → settleAt s have ≡ withheld n p

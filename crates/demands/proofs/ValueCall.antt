@@ -1,7 +1,8 @@
 -- The value call answers every code and every text.
 -- Assumes nothing.
 use mathlib.Core.Path.{_≡_, refl, sym, subst}
-use mathlib.Core.List.{List}
+use mathlib.Core.Logic.{inl, inr}
+use mathlib.Core.List.{List, [], _∷_}
 use Prim.Native.Nat.{ℕ, _^_, _≤_, _<_}
 use native.Mathlib.Omega.{arith}
 use borrow.Author.Tests.{leb-true, le-leb, lt-leb}
@@ -22,8 +23,9 @@ use Rattle.integer.specs.Value.{given, withheld, number, ofReading, bounded, in
 use Rattle.integer.proofs.Refused.{refused-in}
 use Rattle.literal.specs.Checks.{textFault}
 use Rattle.literal.specs.Values.{checkedValue, largestIn, valueWithin, valueAt}
-use Rattle.literal.proofs.Checks.{long-fault, utf8-fault, no-fault, fault-most}
+use Rattle.literal.proofs.Checks.{long-fault, utf8-fault, no-fault}
 use Rattle.demands.specs.Demand1.{Readable, ValueAnswered, ValueType, u8, u16, u32, u64, i8, i16, i32, i64, ValueAnswers}
+use Rattle.demands.proofs.Numbered.{text-refused, or-42}
 
 -- no largest value is above 64 bits
 abbrev Small : Largest → Type 0
@@ -56,14 +58,16 @@ value-answered most s l = go (integerRead s) refl
     n = number (baseAt s) (mainPart s)
 
     go : (o : Outcome) → integerRead s ≡ o → ValueAnswered (length s) (ofReading o (bounded most n))
-    go (refused m p) h = let r = refused-in s h in (r .0, omega arith, r .2)
+    go (refused m p) h = inl (refused-in s h)
     go (accepted k e vs) h =
-        cond-in (ValueAnswered (length s)) (leb n most) (λ t. let b = leb-true n most t in omega arith) (λ t. omega arith)
+        cond-in (ValueAnswered (length s)) (leb n most) (λ t. let b = leb-true n most t in omega arith)
+        (λ t. inr (inr (inr (inr (inl refl))), refl))
 
 checked-answered : (most : ℕ) (s : List ℕ) → most < 2 ^ 64 → ValueAnswered (length s) (checkedValue most s)
 unfolding checkedValue
 checked-answered most s l =
-    cond-eq (ValueAnswered (length s)) (textFault s) 0 (λ z. value-answered most s l) (λ z. let m = fault-most s in omega arith)
+    cond-eq (ValueAnswered (length s)) (textFault s) 0 (λ z. value-answered most s l)
+    (λ z. or-42 (length s) (43 ∷ 44 ∷ 45 ∷ []) (textFault s) none (text-refused (length s) s (45 ∷ []) z))
 
 answered : (code : ℕ) (s : List ℕ) → ValueAnswered (length s) (valueAt code s)
 unfolding valueAt
@@ -71,7 +75,7 @@ answered code s = go (largestIn (integerCoded code)) (small-in (integerCoded cod
   where
     go : (l : Largest) → Small l → ValueAnswered (length s) (valueWithin l s)
     go (Value most) h = checked-answered most s h
-    go NoValues h = omega arith
+    go NoValues h = inr (inl refl, refl)
 
 -- ---- the types that have values
 

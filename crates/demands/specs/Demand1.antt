@@ -19,9 +19,10 @@
 -- Assumes nothing.
 use Prim.Native.Nat.{ℕ, _+_, _^_, _≤_, _<_}
 use mathlib.Core.Path.{_≡_}
-use mathlib.Core.List.{List, _∷_}
+use mathlib.Core.Logic.{_⊎_}
+use mathlib.Core.List.{List, [], _∷_}
 use lib.ListN.{length}
-use Rattle.err.specs.Outcome.{Place, Ends, none, Values, Outcome, refused, accepted}
+use Rattle.err.specs.Outcome.{Place, none, RefusedIn, Values, Outcome, refused, accepted}
 use Rattle.buffer.specs.Buffer.{over}
 use Rattle.utf8.specs.Utf8.{Utf8}
 use Rattle.grammar.specs.Notation.{bytes}
@@ -37,6 +38,7 @@ use Rattle.string.specs.String.{kindOf, stringRead, stringValue}
 use Rattle.string.specs.Decode.{Decode, written, withheld}
 use Rattle.string.specs.declared.Kind.{Kind}
 use Rattle.literal.specs.Readings.{entryRead, readAt}
+use Rattle.literal.specs.Inside.{NoLonger}
 use Rattle.literal.specs.Values.{valueAt}
 use Rattle.literal.specs.Decodes.{decodeAt, bufferAt}
 use Rattle.literal.specs.Suffixes.{integerFromSuffix, floatFromSuffix}
@@ -49,14 +51,21 @@ pub record Readable (s : List ℕ) : Type 0 where
   pub short : length s ≤ 65536
   pub utf8 : Utf8 s
 
--- a refusal of a text of m bytes: one of 01's numbers, up to the largest that the call has, and no span or one inside the text
-abbrev pub Numbered : ℕ → ℕ → ℕ → Place → Type 0
-Numbered m most n p = (1 ≤ n) × (n ≤ most) × Ends m p
+-- a number is one of these
+abbrev pub OneOf : List ℕ → ℕ → Type 0
+OneOf [] n = ⊥
+OneOf (a ∷ rest) n = (n ≡ a) ⊎ OneOf rest n
 
--- the answers of reading: a reading of one of the eight kinds, with its suffix inside the text, or a refusal
+-- a refusal of a text of m bytes: one of litrs's numbers, 1 to 41, with no span or one inside the text; or one of those that the call adds to
+-- them, without a span
+abbrev pub Numbered : ℕ → List ℕ → ℕ → Place → Type 0
+Numbered m added n p = RefusedIn m n p ⊎ (OneOf added n × (p ≡ none))
+
+-- the answers of reading: a reading of one of the eight kinds, with its suffix inside the text and a decoded value no longer than the text; or
+-- a refusal
 abbrev pub Answered : ℕ → Outcome → Type 0
-Answered m (accepted k e vs) = (1 ≤ k) × (k ≤ 8) × (e ≤ m)
-Answered m (refused n p) = Numbered m 44 n p
+Answered m (accepted k e vs) = (1 ≤ k) × (k ≤ 8) × (e ≤ m) × NoLonger m vs
+Answered m (refused n p) = Numbered m (42 ∷ 43 ∷ 44 ∷ []) n p
 
 -- reading answers every code and every text, and refuses it exactly so, in this order
 pub record ReadAnswers : Type 0 where
@@ -65,11 +74,14 @@ pub record ReadAnswers : Type 0 where
   pub too-long : (code : ℕ) (s : List ℕ) → code ≤ 8 → 65536 < length s → readAt code s ≡ refused 43 none
   pub not-utf8 : (code : ℕ) (s : List ℕ) → code ≤ 8 → length s ≤ 65536 → (Utf8 s → ⊥) → readAt code s ≡ refused 44 none
   pub own : (code : ℕ) (s : List ℕ) → code ≤ 8 → Readable s → readAt code s ≡ entryRead code s
+  -- 42, 43 and 44 come for no other reason: what an entry itself refuses has one of litrs's numbers. (The value call hands on what entry 2
+  -- refuses, decoding what 5, 7 and 8 refuse.)
+  pub own-number : (code : ℕ) (s : List ℕ) {n : ℕ} {p : Place} → code ≤ 8 → entryRead code s ≡ refused n p → RefusedIn (length s) n p
 
 -- the answers of the value call: a number, or a refusal
 abbrev pub ValueAnswered : ℕ → Valued → Type 0
 ValueAnswered m (given v) = v < 2 ^ 64
-ValueAnswered m (valued.withheld n p) = Numbered m 45 n p
+ValueAnswered m (valued.withheld n p) = Numbered m (42 ∷ 43 ∷ 44 ∷ 45 ∷ []) n p
 
 -- 01: "type codes 1 to 4 and 7 to 10": the code of each type that has values, and the type's largest value
 pub data ValueType : ℕ → ℕ → Type 0 where
@@ -101,10 +113,10 @@ pub record ValueAnswers : Type 0 where
 abbrev pub Decodes : ℕ → Type 0
 Decodes code = (k : Kind) × (code ≡ kindOf k)
 
--- the answers of decoding into a buffer of `have` bytes: a count that fits, or a refusal
+-- the answers of decoding into a buffer of `have` bytes: a count that fits and is at most the text's, so at most 65,536; or a refusal
 abbrev pub DecodeAnswered : ℕ → ℕ → Decode → Type 0
-DecodeAnswered m have (written n) = n ≤ have
-DecodeAnswered m have (withheld n p) = Numbered m 48 n p
+DecodeAnswered m have (written n) = (n ≤ have) × (n ≤ m)
+DecodeAnswered m have (withheld n p) = Numbered m (42 ∷ 43 ∷ 44 ∷ 48 ∷ []) n p
 
 -- decoding likewise: 48 exactly where the buffer is shorter than the value, after everything that a reading can refuse
 pub record DecodeAnswers : Type 0 where
@@ -149,10 +161,10 @@ pub record SuffixAnswers : Type 0 where
   pub float : (t : FloatType) → floatFromSuffix (floatName t) ≡ floatCode t
   pub no-float : (name : List ℕ) → ((t : FloatType) → name ≡ floatName t → ⊥) → floatFromSuffix name ≡ 0
 
--- the answers of settling, and of measuring where `have` is 65,536: a kind and a length that fits, or a refusal
+-- the answers of settling, and of measuring where `have` is 65,536: a kind and a length that fits, or a refusal. No 42: they take no code
 abbrev pub SettleAnswered : ℕ → ℕ → Settle → Type 0
 SettleAnswered m have (formed k n) = (1 ≤ k) × (k ≤ 8) × (n ≤ have) × (n ≤ 65536)
-SettleAnswered m have (settled.withheld n p) = Numbered m 48 n p
+SettleAnswered m have (settled.withheld n p) = Numbered m (43 ∷ 44 ∷ 45 ∷ 46 ∷ 47 ∷ 48 ∷ []) n p
 
 -- settling answers every text; what a reading refuses, it refuses so. (When it refuses an accepted text: Demand3.)
 pub record SettleAnswers : Type 0 where

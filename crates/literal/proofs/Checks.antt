@@ -2,6 +2,7 @@
 -- Assumes nothing.
 use mathlib.Core.Path.{_≡_, refl}
 use mathlib.Core.Bool.{Bool, true, false, cond}
+use mathlib.Core.Logic.{_⊎_, inl, inr}
 use mathlib.Core.List.{List}
 use Prim.Native.Nat.{ℕ, _≤_, _<_}
 use native.Mathlib.Omega.{arith}
@@ -39,5 +40,5 @@ module _ (s : List ℕ) where
   pub fault-passed : textFault s ≡ 0 → (length s ≤ 65536) × Utf8 s
   fault-passed = fault (λ n. n ≡ 0 → (length s ≤ 65536) × Utf8 s) (λ h u e. (h, u)) (λ e. absurd (omega arith)) (λ e. absurd (omega arith))
 
-  pub fault-most : textFault s ≤ 44
-  fault-most = fault (λ n. n ≤ 44) (λ h u. omega arith) (omega arith) (omega arith)
+  pub fault-is : (textFault s ≡ 0 → ⊥) → (textFault s ≡ 43) ⊎ (textFault s ≡ 44)
+  fault-is = fault (λ n. (n ≡ 0 → ⊥) → (n ≡ 43) ⊎ (n ≡ 44)) (λ h u z. absurd (z refl)) (λ z. inl refl) (λ z. inr refl)

@@ -1,4 +1,5 @@
--- The parts of an accepted reading and its suffix follow one another inside the text, on character boundaries.
+-- The parts of an accepted reading and its suffix follow one another inside the text, on character boundaries, and its decoded value is no
+-- longer than the text.
 -- Assumes nothing.
 use mathlib.Core.Path.{_≡_, refl, sym, _∙_}
 use mathlib.Core.List.{List, _++_, append-assoc}
@@ -20,15 +21,15 @@ use Rattle.character.specs.Single.{charRead, byteRead}
 use Rattle.string.specs.String.{stringRead}
 use Rattle.string.specs.declared.Kind.{Kind}
 use Rattle.string.specs.declared.Kind.the-variants.{Text, Bytes, C}
-use Rattle.literal.specs.Inside.{offsets, OnBoundaries, Rising}
+use Rattle.literal.specs.Inside.{offsets, OnBoundaries, Rising, NoLonger}
 use Rattle.literal.specs.Readings.{entryRead}
 use Rattle.literal.proofs.Quoted.{Closed, char-closed, byte-closed, string-closed}
 use Rattle.literal.proofs.Entries.{by-code, own-entry}
 use Rattle.literal.proofs.Lows.{low, low-boundary, low-digits, low-prefix, low-fraction, low-exponent}
 
--- all that is said of the offsets of a reading
+-- all that is said of the offsets and the value of a reading
 abbrev pub Inside : List ℕ → ℕ → Values → Type 0
-Inside s e vs = OnBoundaries s (offsets e vs) × Rising (offsets e vs)
+Inside s e vs = OnBoundaries s (offsets e vs) × Rising (offsets e vs) × NoLonger (length s) vs
 
 -- behind an ASCII byte
 closed-boundary : (s : List ℕ) (e : ℕ) → Utf8 s → Closed s e → Boundary s e
@@ -38,7 +39,7 @@ closed-boundary s e u c =
 
 module _ (s : List ℕ) (u : Utf8 s) {k e : ℕ} {vs : Values} where
   bool-inside : boolRead s ≡ accepted k e vs → Inside s e vs
-  bool-inside h = let t = boolean.sound s h in rw (t .4, t .2) ((boundary-end s u, tt), tt)
+  bool-inside h = let t = boolean.sound s h in rw (t .4, t .2) ((boundary-end s u, tt), tt, tt)
 
   integer-inside : integerRead s ≡ accepted k e vs → Inside s e vs
   integer-inside h =
@@ -49,7 +50,7 @@ module _ (s : List ℕ) (u : Utf8 s) {k e : ℕ} {vs : Values} where
       let z : Boundary s e =
       low-boundary s (t .pre ++ t .main) (t .suf) u (t .text ∙ sym (append-assoc (t .pre) (t .main) (t .suf))) (all-append low (t .pre) (t .main) p m)
       (length-append (t .pre) (t .main) ∙ sym (t .end)) in
-      rw (t .values) ((a, (z, (z, tt))), (omega (arith, t .end), (omega arith, tt)))
+      rw (t .values) ((a, (z, (z, tt))), (omega (arith, t .end), (omega arith, tt)), tt)
 
   float-inside : floatRead s ≡ accepted k e vs → Inside s e vs
   float-inside h =
@@ -64,16 +65,16 @@ module _ (s : List ℕ) (u : Utf8 s) {k e : ℕ} {vs : Values} where
       let z : Boundary s e =
       low-boundary s ((t .whole ++ t .frac) ++ t .ex) (t .suf) u (q ∙ sym (append-assoc (t .whole ++ t .frac) (t .ex) (t .suf))) x
       (length-append (t .whole ++ t .frac) (t .ex) ∙ omega (arith, t .start)) in
-      rw (t .values) ((i, (j, (z, (z, tt)))), (omega arith, (omega (arith, t .start), (omega arith, tt))))
+      rw (t .values) ((i, (j, (z, (z, tt)))), (omega arith, (omega (arith, t .start), (omega arith, tt))), tt)
 
   char-inside : charRead s ≡ accepted k e vs → Inside s e vs
-  char-inside h = let c = char-closed s h in rw (c .2) ((closed-boundary s e u (c .0), tt), tt)
+  char-inside h = let c = char-closed s h in rw (c .2) ((closed-boundary s e u (c .0), tt), tt, tt)
 
   byte-inside : byteRead s ≡ accepted k e vs → Inside s e vs
-  byte-inside h = let c = byte-closed s h in rw (c .2) ((closed-boundary s e u (c .0), tt), tt)
+  byte-inside h = let c = byte-closed s h in rw (c .2) ((closed-boundary s e u (c .0), tt), tt, tt)
 
   string-inside : (kind : Kind) → stringRead kind s ≡ accepted k e vs → Inside s e vs
-  string-inside kind h = let c = string-closed kind s h in rw (c .3) ((closed-boundary s e u (c .0), tt), tt)
+  string-inside kind h = let c = string-closed kind s h in rw (c .3) ((closed-boundary s e u (c .0), tt), tt, c .4)
 
   kind-inside : (code : ℕ) → 1 ≤ code → code ≤ 8 → entryRead code s ≡ accepted k e vs → Inside s e vs
   unfolding entryRead

@@ -15,7 +15,7 @@ use Rattle.string.specs.String.{stringRead, stringValue}
 use Rattle.string.specs.Parts as string
 use Rattle.string.specs.declared.Kind.{Kind}
 use Rattle.string.proofs.Sound.{sound}
-use Rattle.string.proofs.Values.{ends-ascii}
+use Rattle.string.proofs.Values.{ends-ascii, value-short}
 
 -- it ends inside the text, behind an ASCII byte
 abbrev pub Closed : List ℕ → ℕ → Type 0
@@ -31,12 +31,12 @@ pub byte-closed : (s : List ℕ) {k e : ℕ} {vs : Values} → byteRead s ≡ ac
 byte-closed s h = let t = byte-sound s h in (quote-closed Byte s (t .3), t .0, t .2)
 
 pub string-closed : (k : Kind) (s : List ℕ) {kind e : ℕ} {vs : Values} → stringRead k s ≡ accepted kind e vs
-    → Closed s e × (r : Rawness) × (n : ℕ) × (vs ≡ decoded r n)
-string-closed k s {kind} {e} {vs} h = let v = by-parts tiled in (ends-ascii k s (stringValue k s) tiled, v .0, v .1, v .2)
+    → Closed s e × (r : Rawness) × (n : ℕ) × (vs ≡ decoded r n) × (n ≤ length s)
+string-closed k s {kind} {e} {vs} h = let v = by-parts tiled in (ends-ascii k s (stringValue k s) tiled, v .0, v .1, v .2, v .3)
   where
     tiled : string.Tiled k s (stringValue k s) e vs
     tiled = sound k s h .1
 
-    by-parts : {v : List ℕ} → string.Tiled k s v e vs → (r : Rawness) × (n : ℕ) × (vs ≡ decoded r n)
-    by-parts {v} (string.as-quoted content suf p q is) = (notRaw, length v, is)
-    by-parts {v} (string.as-raw suf hs p q is) = (raw hs, length v, is)
+    by-parts : string.Tiled k s (stringValue k s) e vs → (r : Rawness) × (n : ℕ) × (vs ≡ decoded r n) × (n ≤ length s)
+    by-parts (string.as-quoted content suf p q is) = (notRaw, length (stringValue k s), is, value-short k s h)
+    by-parts (string.as-raw suf hs p q is) = (raw hs, length (stringValue k s), is, value-short k s h)

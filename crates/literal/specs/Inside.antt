@@ -1,4 +1,4 @@
--- Where the parts of an accepted reading stand in its text.
+-- Where the parts of an accepted reading stand in its text, and how long a value it can have.
 -- Assumes nothing.
 use Prim.Native.Nat.{ℕ, _≤_}
 use mathlib.Core.List.{List, [], _∷_}
@@ -23,3 +23,11 @@ abbrev pub Rising : List ℕ → Type 0
 Rising [] = Unit {0}
 Rising (a ∷ []) = Unit {0}
 Rising (a ∷ b ∷ offs) = (a ≤ b) × Rising (b ∷ offs)
+
+-- of a text of m bytes: its decoded value is no longer
+abbrev pub NoLonger : ℕ → Values → Type 0
+NoLonger m (truth t) = Unit {0}
+NoLonger m (digits base a z) = Unit {0}
+NoLonger m (ends i f z) = Unit {0}
+NoLonger m (value v) = Unit {0}
+NoLonger m (decoded r n) = n ≤ m

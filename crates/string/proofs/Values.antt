@@ -15,6 +15,7 @@ use Rattle.string.specs.String.{allowedIn, stringRead, stringValue}
 use Rattle.string.specs.Parts.{letterOf, hashes, Tiled, as-quoted, as-raw}
 use Rattle.string.specs.declared.Kind.{Kind}
 use Rattle.string.specs.declared.Kind.the-variants.{Text, C}
+use Rattle.string.proofs.Literals.{QuotedLit, RawLit, read-is}
 use Rattle.string.proofs.Sound.{sound}
 
 -- ---- the byte before the suffix
@@ -47,6 +48,17 @@ ends-ascii k s v {e} (as-raw suf h parts end values) =
     (behind (letterOf k) _ suf (behind (114 ∷ hashes h) _ suf (behind (34 ∷ v) _ suf (hashed h 34 suf (omega arith)))))) end
 
 -- ---- the value
+
+-- it is no longer than its text
+pub value-short : (k : Kind) (s : List ℕ) {kind e : ℕ} {vs : Values} → stringRead k s ≡ accepted kind e vs → length (stringValue k s) ≤ length s
+value-short k s {kind} {e} {vs} g = go (sound k s g .1)
+  where
+    v : List ℕ
+    v = stringValue k s
+
+    go : Tiled k s v e vs → length v ≤ length s
+    go (as-quoted content suf parts end values) = let l : QuotedLit k s v (length v) e = read-is k s (rw values at g) in omega (arith, l .inside)
+    go (as-raw suf h parts end values) = let l : RawLit k s v h (length v) = read-is k s (rw values at g) in omega (arith, l .inside)
 
 -- 01: a C string has no NUL
 pub value-no-zero : (s : List ℕ) {kind e : ℕ} {vs : Values} → stringRead C s ≡ accepted kind e vs → All (except 0) (stringValue C s)
