@@ -152,12 +152,12 @@ startFault Byte = refused 32 none
 -- of any text: no bytes are 1, another start is 28
 unfoldable pub charRead : List ℕ → Outcome
 charRead [] = refused 1 none
-charRead (b ∷ s) = cond (eqb b 39) (singleAt Char (b ∷ s)) (refused 28 (between 0 1))
+charRead (b ∷ s) = cond (opensBy Char (b ∷ s)) (singleAt Char (b ∷ s)) (startFault Char)
 
 -- of any text: no bytes are 1, another start is 32
 unfoldable pub byteRead : List ℕ → Outcome
 byteRead [] = refused 1 none
-byteRead (b ∷ s) = cond (eqb b 98 && eqb (getD s 0 0) 39) (singleAt Byte (b ∷ s)) (refused 32 none)
+byteRead (b ∷ s) = cond (opensBy Byte (b ∷ s)) (singleAt Byte (b ∷ s)) (startFault Byte)
 
 -- of any text, by the kind
 abbrev pub readBy : Quote → List ℕ → Outcome

@@ -10,11 +10,11 @@ use Rattle.escape.specs.Escape.{Escaped, letterOf, xEscape, uEscape}
 use Rattle.escape.specs.declared.Allowed.{Allowed}
 use Rattle.escape_code.specs.Code.{escapeCode}
 
--- the value of an escape of one letter; 0 for another byte
+-- the value of an escape of one letter; 0 for another byte, and where `end` comes first
 unfoldable pub letterAt : List ℕ → ℕ → ℕ → ℕ
 letterAt s at end = cond (ltb (at + 1) end) (letterOf (getD s (at + 1) 0)) 0
 
--- the code of an escape by the letter b; 0 for another byte, and where it is refused
+-- the code of an escape by the letter b; 0 for another byte, where `end` comes first, and where it is refused
 unfoldable pub byLetter : ℕ → (List ℕ → Escaped) → List ℕ → ℕ → ℕ → ℕ
 byLetter b of s at end =
     cond (ltb (at + 1) end)

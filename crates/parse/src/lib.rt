@@ -293,7 +293,7 @@ fn middle_class(b: u8) -> u8
     if b == b'_' { 16 } else { 19 }
 }
 
-// The class of one byte, by comparisons. A long scan of a suffix or of digits below a base looks them up in the table (`run_len`).
+// The class of one byte, by comparisons. A scan by `run_len` looks them up in the table.
 pub fn class_of(b: u8) -> u8
     ensures { λ r. ⌜ r ≡ classOf b ⌝ }
 {

@@ -43,7 +43,7 @@ mask t = cond t 255 0
 abbrev pub faultOf : ℕ → ℕ → ℕ → ℕ → ℕ
 faultOf c b a x = mask (breaks c b a x)
 
--- the highest of these numbers over the bytes behind c, b, a, and m: 0 where no byte is at fault
+-- the highest of m and these numbers over the bytes behind c, b, a; from m = 0 it is 0 exactly where no byte is at fault
 abbrev pub worstFrom : ℕ → ℕ → ℕ → ℕ → List ℕ → ℕ
 worstFrom m c b a [] = m
 worstFrom m c b a (x ∷ s) = worstFrom (largerOf m (faultOf c b a x)) b a x s
@@ -53,7 +53,7 @@ abbrev pub clean : ℕ → ℕ → ℕ → List ℕ → Bool
 clean c b a [] = not (wantsTail c b a)
 clean c b a (x ∷ s) = cond (eqb (faultOf c b a x) 0) (clean b a x s) false
 
--- the same of the bytes behind the first three of a list
+-- the two of the bytes behind the first three of a list
 abbrev pub worstBehind : List ℕ → ℕ
 worstBehind s = worstFrom 0 (getD s 0 0) (getD s 1 0) (getD s 2 0) (drop 3 s)
 
