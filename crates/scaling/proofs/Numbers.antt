@@ -106,7 +106,6 @@ decimal-only b s t =
 
 -- what the text between the first and the last significant digit is, in a mantissa m that has one
 pub record Middle (m : List ℕ) (first end : ℕ) : Type 0 where
-  pub order : first ≤ end
   pub digits : decimal (count 0 (part first end m)) ≡ digitsOf (part first end m)
   pub ending : 0 < count 0 (part first end m) % 10
   pub whole : count 0 m ≡ count 0 (part first end m) * 10 ^ length (digitsOf (drop end m))
@@ -129,7 +128,6 @@ no-last m e = count-insignificant 0 m (rw e at (last-behind m)) ∙ zero-mul _
 
 pub middle : (m : List ℕ) → 0 < lastEnd m → Middle m (run insignificant m) (lastEnd m)
 middle m h = record {
-  order = omega (arith, ends);
   digits = rw span (from-first r (run-stops insignificant m) some);
   ending = rw span (count-last 0 r some);
   whole = rw (span, back) whole;

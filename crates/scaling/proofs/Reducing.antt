@@ -11,11 +11,13 @@ use lib.ListN.{length, drop, length-drop}
 use Rattle.scan.specs.Run.{run}
 use Rattle.scan.proofs.Cases.{cond-lt, by-lt, clash}
 use Rattle.buffer.specs.Digits.{decimal}
+use Rattle.buffer.proofs.Decimals.{some as decimal-some}
 use Rattle.grammar.specs.Decimal.{Decimal, SameValue}
 use Rattle.form.specs.Reduced.{Reduced, reduce}
 use Rattle.form.proofs.Reduce.{same-iff, reduce-again}
 use Rattle.scaling.specs.Digits.{digitsOf, insignificant, lastEnd}
-use Rattle.scaling.specs.Scaled.{part, capped, Scales, scalingBy}
+use Rattle.scaling.specs.Scaled.{part, capped, ScaledTo, Scales, scalingBy}
+use Rattle.scaling.specs.declared.Scaled.{Scaled}
 use Rattle.scaling.specs.declared.Scaling.{Scaling}
 use Rattle.scaling.proofs.Digits.{digits-short, last-le}
 use Rattle.scaling.proofs.Capped.{capped-cases}
@@ -44,24 +46,38 @@ module _ (d : Decimal) (c z : ℕ) (is : d .coef ≡ c * 10 ^ z) (ending : 0 < c
   pub reduced : reduce d ≡ taken
   reduced = same-iff d taken .0 same ∙ reduce-again taken taken-reduced
 
+-- the digits that are found stand in the mantissa
+pub inside : (m : List ℕ) (d : Decimal) (r : Scaled) → ScaledTo m d r → (r .first ≤ r .last) × (r .last ≤ length m)
+inside m d r h = (
+  by-lt (r .last) (r .first)
+      (λ l.
+      let none : r .last - r .first ≡ 0 = omega arith in
+      absurd (omega (arith, decimal-some (reduce d .coef), ap length (rw none at (h .digits)))))
+      (λ l. l),
+  rw (h .last) (last-le m),
+)
+
 -- what `scalingBy` of two powers finds of a number, where they are its own or both sides are too far
-module _ (m : List ℕ) (d : Decimal) (first end up down : ℕ) (some : 0 < d .coef) (inside : (first ≤ end) × (end ≤ length m))
-    (digits : digitsOf (part first end m) ≡ decimal (reduce d .coef)) where
-  pub scales-far : 1000000 < reduce d .up + reduce d .down → 1000000 < (up - down) + (down - up) → Scales m d (scalingBy first end up down)
+module _ (m : List ℕ) (d : Decimal) (up down : ℕ) (some : 0 < d .coef)
+    (digits : digitsOf (part (run insignificant m) (lastEnd m) m) ≡ decimal (reduce d .coef)) where
+  abbrev found : Scaling
+  found = scalingBy (run insignificant m) (lastEnd m) up down
+
+  pub scales-far : 1000000 < reduce d .up + reduce d .down → 1000000 < (up - down) + (down - up) → Scales m d found
   scales-far r f =
       cond-lt (λ (s : Scaling). Scales m d s) up down
       (λ l. cond-lt (λ (s : Scaling). Scales m d s) 1000000 (down - up) (λ g. (some, r)) (λ g. absurd (omega arith)))
       (λ l. cond-lt (λ (s : Scaling). Scales m d s) 1000000 (up - down) (λ g. (some, r)) (λ g. absurd (omega arith)))
 
-  pub scales-by : reduce d .up ≡ up - down → reduce d .down ≡ down - up → Scales m d (scalingBy first end up down)
+  pub scales-by : reduce d .up ≡ up - down → reduce d .down ≡ down - up → Scales m d found
   scales-by u w =
       cond-lt (λ (s : Scaling). Scales m d s) up down
       (λ l. cond-lt (λ (s : Scaling). Scales m d s) 1000000 (down - up)
       (λ g. (some, omega arith))
-      (λ g. record { some = some; inside = inside; digits = digits; up = omega arith; down = w; sign = λ e. omega arith; power = g }))
+      (λ g. record { some = some; first = refl; last = refl; digits = digits; up = omega arith; down = w; sign = λ e. omega arith; power = g }))
       (λ l. cond-lt (λ (s : Scaling). Scales m d s) 1000000 (up - down)
       (λ g. (some, omega arith))
-      (λ g. record { some = some; inside = inside; digits = digits; up = u; down = omega arith; sign = λ e. clash e refl; power = g }))
+      (λ g. record { some = some; first = refl; last = refl; digits = digits; up = u; down = omega arith; sign = λ e. clash e refl; power = g }))
 
 -- of a mantissa m, with n the size of the exponent and p the digits of the fraction
 module _ (m : List ℕ) (d : Decimal) (coef : d .coef ≡ count 0 m) where
@@ -89,9 +105,6 @@ module _ (m : List ℕ) (d : Decimal) (coef : d .coef ≡ count 0 m) where
         by-lt 0 (d .coef) (λ l. l)
         (λ l. absurd (omega (arith, mid .ending, no-product c (10 ^ z) (sym (mid .whole) ∙ sym coef ∙ omega arith) (one-le-pow z 10 (omega arith)))))
 
-    inside : (run insignificant m ≤ lastEnd m) × (lastEnd m ≤ length m)
-    inside = (mid .order, last-le m)
-
     digits : digitsOf (part (run insignificant m) (lastEnd m) m) ≡ decimal (reduce d .coef)
     digits = sym (mid .digits) ∙ ap (λ (r : Decimal). decimal (r .coef)) (sym is)
 
@@ -105,14 +118,14 @@ module _ (m : List ℕ) (d : Decimal) (coef : d .coef ≡ count 0 m) where
     pub scales-up : d .up ≡ n → d .down ≡ p → Scales m d (scalingBy (run insignificant m) (lastEnd m) (capped n + z) p)
     scales-up u w =
         ⊎-elim
-        (λ e. scales-by m d (run insignificant m) (lastEnd m) (capped n + z) p some inside digits (omega (arith, up-is)) (omega (arith, down-is)))
-        (λ e. scales-far m d (run insignificant m) (lastEnd m) (capped n + z) p some inside digits (omega (arith, up-is)) (omega arith))
+        (λ e. scales-by m d (capped n + z) p some digits (omega (arith, up-is)) (omega (arith, down-is)))
+        (λ e. scales-far m d (capped n + z) p some digits (omega (arith, up-is)) (omega arith))
         (capped-cases n)
 
     -- with one
     pub scales-down : d .up ≡ 0 → d .down ≡ n + p → Scales m d (scalingBy (run insignificant m) (lastEnd m) z (capped n + p))
     scales-down u w =
         ⊎-elim
-        (λ e. scales-by m d (run insignificant m) (lastEnd m) z (capped n + p) some inside digits (omega (arith, up-is)) (omega (arith, down-is)))
-        (λ e. scales-far m d (run insignificant m) (lastEnd m) z (capped n + p) some inside digits (omega (arith, down-is, z-short)) (omega (arith, z-short)))
+        (λ e. scales-by m d z (capped n + p) some digits (omega (arith, up-is)) (omega (arith, down-is)))
+        (λ e. scales-far m d z (capped n + p) some digits (omega (arith, down-is, z-short)) (omega (arith, z-short)))
         (capped-cases n)

@@ -8,12 +8,13 @@ use lib.Dec.{leb, ltb}
 use lib.ListN.{length, take, drop}
 use Rattle.err.specs.Outcome.{accepted, ends}
 use Rattle.err.specs.declared.FloatLit.{FloatLit}
+use Rattle.scan.specs.Run.{run}
 use Rattle.buffer.specs.Digits.{decimal}
 use Rattle.grammar.specs.Decimal.{Decimal}
 use Rattle.grammar.specs.Values.{powered}
 use Rattle.float.specs.Float.{floatRead}
 use Rattle.form.specs.Reduced.{reduce}
-use Rattle.scaling.specs.Digits.{digitsOf}
+use Rattle.scaling.specs.Digits.{insignificant, digitsOf, lastEnd}
 use Rattle.scaling.specs.declared.Scaled.{Scaled}
 use Rattle.scaling.specs.declared.Scaling.{Scaling}
 use Rattle.scaling.specs.declared.Scaling.the-variants as scaling
@@ -43,10 +44,11 @@ capped n = cond (leb n 2000000) n 2000001
 abbrev pub near : Decimal → Bool
 near d = leb (reduce d .up + reduce d .down) 1000000
 
--- what is found of a number d whose mantissa is m
+-- what is found of a number d whose mantissa is m: its significant digits stand from the first to the last, and the power has a sign only where it is above 0
 pub record ScaledTo (m : List ℕ) (d : Decimal) (r : Scaled) : Type 0 where
   pub some : 0 < d .coef
-  pub inside : (r .first ≤ r .last) × (r .last ≤ length m)
+  pub first : r .first ≡ run insignificant m
+  pub last : r .last ≡ lastEnd m
   pub digits : digitsOf (part (r .first) (r .last) m) ≡ decimal (reduce d .coef)
   pub up : reduce d .up ≡ cond (r .negative) 0 (r .power)
   pub down : reduce d .down ≡ cond (r .negative) (r .power) 0

@@ -5,6 +5,7 @@ use mathlib.Core.Path.{sym, ap}
 use native.Mathlib.Omega.{arith}
 use lib.ListN.{take}
 use Rattle.scaling.specs.Scaled.{numberOf, ScaledTo}
+use Rattle.scaling.proofs.Reducing.{inside}
 use Rattle.scaling.proofs.Texts.{mantissa-length, order}
 use Rattle.float_form.specs.Floats.{known}
 use Rattle.float_form.proofs.Forms as forms
@@ -34,7 +35,7 @@ slice-aggregate-scaled-len c = let a = c .before .before .before .before .before
 scaled-len-requires : tie.Need-scaled-len-requires
 scaled-len-requires c κs =
     let a = c .before .before .before .before .before .before in
-    (omega (arith, mantissa-length _ _ _ _ (a .pre .0) (a .pre .1), order _ _ _ _ (a .pre .0) (a .pre .1), a .pre .0), found c .inside)
+    (omega (arith, mantissa-length _ _ _ _ (a .pre .0) (a .pre .1), order _ _ _ _ (a .pre .0) (a .pre .1), a .pre .0), inside _ _ _ (found c))
 
 returns : tie.Need-returns
 returns c =

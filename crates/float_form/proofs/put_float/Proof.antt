@@ -9,6 +9,7 @@ use Rattle.scan.proofs.Cases.{clash}
 use Rattle.form.specs.Reduced.{reduce}
 use Rattle.form.specs.Form.{reducedForm}
 use Rattle.scaling.specs.Scaled.{numberOf, ScaledTo}
+use Rattle.scaling.proofs.Reducing.{inside}
 use Rattle.scaling.proofs.Texts.{mantissa-length}
 use Rattle.float_form.proofs.Forms as forms
 use Rattle.float_form.proofs.put_float.Statement.{statement}
@@ -44,7 +45,7 @@ slice-aggregate-put-scaled c =
 
 put-scaled-requires : tie.Need-put-scaled-requires
 put-scaled-requires c κs =
-    (found c .inside, rw (forms.found-form _ _ _ (found c)) at (c .before .before .before .before .before .before .before .before .pre .1 .1))
+    (inside _ _ _ (found c), rw (forms.found-form _ _ _ (found c)) at (c .before .before .before .before .before .before .before .before .pre .1 .1))
 
 same-length : tie.Need-same-length
 same-length c = search needs
