@@ -2,16 +2,17 @@
 -- Assumes nothing.
 use Prim.Native.Nat.{ℕ, _+_, _≤_}
 use mathlib.Core.Path.{_≡_}
-use mathlib.Core.Bool.{Bool, cond, _&&_}
+use mathlib.Core.Bool.{Bool, cond}
 use mathlib.Core.List.{List, [], _∷_}
 use lib.Dec.{eqb}
 use lib.ListN.{length, getD, take, drop}
 use Rattle.err.specs.Outcome.{Outcome, refused, accepted, none, between, digits}
-use Rattle.err.specs.Reading.{baseOf, prefixBytes, outcomeOf}
+use Rattle.err.specs.Reading.{baseOf, prefixOf, outcomeOf}
 use Rattle.err.specs.declared.IntegerBase.{IntegerBase}
 use Rattle.err.specs.declared.IntegerLit.{IntegerLit}
 use Rattle.err.specs.declared.Reading.the-variants as reading
 use Rattle.scan.specs.Run.{run}
+use Rattle.scan.specs.Same.{same}
 use Rattle.scan.specs.Sets.{only}
 use Rattle.parse.specs.Sets.{digit, decDigit, startsE}
 use Rattle.parse.specs.Suffix.{suffixFault}
@@ -27,9 +28,9 @@ baseAt s =
     (cond (eqb (getD s 1 0) 120) 16 10)))
     10
 
--- "Prefixes are `0b`, `0o`, `0x`, lower case only": whether a text starts with that of a base that has one (`baseAt` says which)
+-- "Prefixes are `0b`, `0o`, `0x`, lower case only": whether a text starts with a base's prefix; base ten has none, and every text starts with it
 unfoldable pub hasPrefix : IntegerBase → List ℕ → Bool
-hasPrefix base s = eqb (getD s 0 0) (getD (prefixBytes base) 0 0) && eqb (getD s 1 0) (getD (prefixBytes base) 1 0)
+hasPrefix base s = same (take (length (prefixOf base)) s) (prefixOf base)
 
 -- the length of a base's prefix
 unfoldable pub prefixLen : ℕ → ℕ

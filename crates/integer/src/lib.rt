@@ -23,9 +23,9 @@ pub enum Parsed {
     Refused(ParseErrorKind, Span),
 }
 
-// Whether a text starts with the prefix of a base that has one.
+// Whether a text starts with the prefix of a base that has one (all but ten).
 fn has_prefix(text: &[u8], base: IntegerBase) -> bool
-    requires { ⌜ 2 ≤ length (now text) ⌝ }
+    requires { ⌜ (length (prefixOf base) ≡ 2) × (2 ≤ length (now text)) ⌝ }
     ensures { λ r. ⌜ r ≡ hasPrefix base (now (text .entry)) ⌝ }
 {
     let prefix = base.prefix();
