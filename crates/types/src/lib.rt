@@ -99,6 +99,7 @@ impl IntegerType {
     // The type that a suffix names.
     pub fn from_suffix(suffix: &[u8]) -> IntegerFound
         ensures { λ r. ⌜ r ≡ integerNamed (now (suffix .entry)) ⌝ }
+        ensures { λ r. ⌜ now (suffix .exit) ≡ now (suffix .entry) ⌝ }
     {
         let unsigned = IntegerType::unsigned_from_suffix(suffix);
         let IntegerFound::Nothing = unsigned else {
@@ -184,6 +185,7 @@ impl FloatType {
     // The type that a suffix names.
     pub fn from_suffix(suffix: &[u8]) -> FloatFound
         ensures { λ r. ⌜ r ≡ floatNamed (now (suffix .entry)) ⌝ }
+        ensures { λ r. ⌜ now (suffix .exit) ≡ now (suffix .entry) ⌝ }
     {
         if scan::is_same(suffix, b"f32") {
             return FloatFound::Type(FloatType::F32);

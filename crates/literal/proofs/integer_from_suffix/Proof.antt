@@ -17,14 +17,14 @@ enum-told c = search needs
 
 returns : tie.Need-returns
 unfolding integerFromSuffix
-returns c = (rw (← c .before .before .from-suffix .ensures, c .enum-told .given .1), refl)
+returns c = (rw (← c .before .before .from-suffix .ensures .0, c .enum-told .given .1), refl)
 
 code-requires : tie.Need-code-requires
 code-requires c κs = search needs
 
 returns-2 : tie.Need-returns-2
 unfolding integerFromSuffix
-returns-2 c = (rw (← c .before .before .before .before .from-suffix .ensures, c .before .before .found .given .1) (c .code .ensures), refl)
+returns-2 c = (rw (← c .before .before .before .before .from-suffix .ensures .0, c .before .before .found .given .1) (c .code .ensures), refl)
 
 pub integer-from-suffix-spec : {M : Type 1} → statement M
 integer-from-suffix-spec =

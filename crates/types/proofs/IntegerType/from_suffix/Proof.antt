@@ -1,5 +1,6 @@
 -- `types::IntegerType::from_suffix` meets its contract.
 -- Assumes nothing.
+use mathlib.Core.Path.{refl}
 use Rattle.types.specs.Types.{integerNamed}
 use borrow.Author.Needs.{needs}
 use Rattle.types.proofs.IntegerType.from_suffix.Statement.{statement}
@@ -18,7 +19,7 @@ returns : tie.Need-returns
 unfolding integerNamed
 returns c =
     let u = c .before .before .unsigned-from-suffix in
-    rw (← u .ensures, c .enum-told2 .given .1)
+    (rw (← u .ensures, c .enum-told2 .given .1), refl)
 
 signed-from-suffix-requires : tie.Need-signed-from-suffix-requires
 signed-from-suffix-requires c κs = search needs
@@ -27,7 +28,7 @@ returns-2 : tie.Need-returns-2
 unfolding integerNamed
 returns-2 c =
     let u = c .before .before .before .unsigned-from-suffix in
-    rw (← u .ensures, c .before .enum-told .given .1) (c .signed-from-suffix .ensures)
+    (rw (← u .ensures, c .before .enum-told .given .1) (c .signed-from-suffix .ensures), refl)
 
 pub from-suffix-spec : {M : Type 1} → statement M
 from-suffix-spec =
