@@ -20,7 +20,7 @@ use Rattle.quoting.specs.Styled.{styledForm, styledForms}
 use Rattle.quoting.proofs.Styles.{char-style, byte-style}
 use Rattle.scaling.specs.Scaled.{near}
 use Rattle.float_form.specs.Floats.{Length, known, too-far}
-use Rattle.bare_form.specs.Bare.{BareForm, len, bad, bareLen}
+use Rattle.bare_form.specs.Bare.{BareLength, len, bad, bareLen}
 
 -- a length is no refusal
 pub no-len {ℓ} : {A : Type ℓ} {n m : ℕ} {p : Place} → bad m p ≡ len n → A
@@ -62,7 +62,7 @@ module _ (m : ℕ) (x : List ℕ) where
       by-test false e = refl
 
 -- the length of a float's form, as float_form answers it
-abbrev pub bareIn : Length → BareForm
+abbrev pub bareIn : Length → BareLength
 bareIn (known n) = len n
 bareIn too-far = bad 46 none
 

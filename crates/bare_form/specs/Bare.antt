@@ -15,35 +15,41 @@ use Rattle.bare_form.specs.Worths.{worthOf}
 use Rattle.bare_form.specs.declared.Bare.{Bare}
 use Rattle.bare_form.specs.declared.Bare.the-variants as bare
 
-pub data BareForm : Type 0 where
-  len : ℕ → BareForm
-  bad : ℕ → Place → BareForm
+-- how long a form is without its suffix, or a refusal's number and span; serves contracts between functions, as `bareOf` does
+pub data BareLength : Type 0 where
+  len : ℕ → BareLength
+  bad : ℕ → Place → BareLength
 
-abbrev pub bareOf : Bare → BareForm
+-- document 01's number and span for each case of what the code answers
+abbrev pub bareOf : Bare → BareLength
 bareOf (bare.Len n) = len n
 bareOf (bare.Refused k p) = bad (numberOf k) (placeOf p)
 
-unfoldable pub bareLen : Worth → List ℕ → BareForm
+-- 01: "Above 2^64 − 1 it is 45", "It is 46 exactly when k is beyond 1,000,000 either way", else the form's length; x is the suffix
+unfoldable pub bareLen : Worth → List ℕ → BareLength
 bareLen w x = cond (eqb (faultOf w) 0) (len (length (bareForm w x))) (bad (faultOf w) none)
 
-abbrev pub bareBy : List ℕ → Outcome → BareForm
+-- 01: "It is made from entry 0's reading"; a refused reading's number and span stay as they are
+abbrev pub bareBy : List ℕ → Outcome → BareLength
 bareBy s (refused n p) = bad n p
 bareBy s (accepted k e vs) = bareLen (worthOf k s vs) (drop e s)
 
+-- 01: "It is made from entry 0's reading": the form before "The suffix follows unchanged"; none of a refused reading
 abbrev pub bareFormBy : List ℕ → Outcome → List ℕ
 bareFormBy s (refused n p) = []
 bareFormBy s (accepted k e vs) = bareForm (worthOf k s vs) (drop e s)
 
--- kind and start of suffix of an accepted reading
+-- 01: "A reading holds kind, start of suffix": the kind of an accepted one, else 0; serves contracts between functions
 abbrev pub kindIn : Outcome → ℕ
 kindIn (refused n p) = 0
 kindIn (accepted k e vs) = k
 
+-- and the start of its suffix, likewise
 abbrev pub suffixIn : Outcome → ℕ
 suffixIn (refused n p) = 0
 suffixIn (accepted k e vs) = e
 
--- a form is there, and a buffer of `have` bytes has room for the part before the suffix
+-- a form is there, and a buffer of `have` bytes has room for the part before the suffix; serves contracts between functions
 pub record Roomy (s : List ℕ) (o : Outcome) (have : ℕ) : Type 0 where
   pub form : bareBy s o ≡ len (length (bareFormBy s o))
   pub room : length (bareFormBy s o) ≤ have
