@@ -5,11 +5,9 @@ use mathlib.Core.Bool.{Bool, true, false, cond}
 use mathlib.Core.List.{List, [], _∷_, _++_}
 use Prim.Native.Nat.{ℕ, zero, suc, _+_, _-_, _≤_, _<_, min}
 use native.Mathlib.Omega.{arith}
-use lib.Dec.{ltb}
 use lib.ListN.{length, getD, take, drop, length-take}
 use lib.Seq.{drop-drop, take-add}
 use Rattle.scan.specs.Run.{run}
-use Rattle.scan.proofs.Cases.{cond-lt}
 use Rattle.scan.proofs.Runs.{run-le, run-more, run-stop, run-end, run-past}
 
 -- ---- in a block of n bytes
@@ -25,19 +23,16 @@ module _ (p : ℕ → Bool) (s : List ℕ) (n : ℕ) (size : length s ≡ n) whe
   least-start = record { within = omega arith; small = omega arith; is = omega (arith, run-le p s) }
 
   -- x is the place of the byte at j, where it fails, or n
-  pub least-more : (m j x y : ℕ) → Least p s n m j → j < n → x ≡ cond (p (getD s j 0)) n j → y ≡ cond (ltb x m) x m → Least p s n y (j + 1)
+  pub least-more : (m j x y : ℕ) → Least p s n m j → j < n → x ≡ cond (p (getD s j 0)) n j → y ≡ min m x → Least p s n y (j + 1)
   least-more m j x y l h e f = rw (f, e) (by-test (p (getD s j 0)) refl)
     where
-      by-test : (t : Bool) → p (getD s j 0) ≡ t → Least p s n (cond (ltb (cond t n j) m) (cond t n j) m) (j + 1)
+      by-test : (t : Bool) → p (getD s j 0) ≡ t → Least p s n (min m (cond t n j)) (j + 1)
       by-test true g =
           let r = run-more p s j (omega arith) g in
-          cond-lt (λ (y : ℕ). Least p s n y (j + 1)) n m (λ o. omega (arith, l .small))
-          (λ o. record { within = omega arith; small = l .small; is = omega (arith, l .is) })
+          record { within = omega arith; small = omega (arith, l .small); is = omega (arith, l .is, l .small) }
       by-test false g =
           let r = run-stop p s j (omega arith) g in
-          cond-lt (λ (y : ℕ). Least p s n y (j + 1)) j m
-          (λ o. record { within = omega arith; small = omega arith; is = omega (arith, l .is) })
-          (λ o. record { within = omega arith; small = l .small; is = omega (arith, l .is) })
+          record { within = omega arith; small = omega (arith, l .small); is = omega (arith, l .is) }
 
   -- THE LAW: behind the last byte it is the run.
   pub least-end : (m j : ℕ) → Least p s n m j → n ≤ j → m ≡ run p s

@@ -2,7 +2,6 @@
 ghost use mathlib.Core.Path.{_≡_};
 ghost use mathlib.Core.Bool.{cond};
 ghost use Prim.Native.Nat.{_+_, _-_, _≤_, min};
-ghost use lib.Dec.{ltb};
 ghost use lib.ListN.{length, drop, getD};
 ghost use Rattle.scan.specs.Bit.{bit};
 ghost use Rattle.scan.specs.Byte.{byteOf};
@@ -48,7 +47,7 @@ pub fn bit(test: bool) -> u8
 
 // The smaller of two numbers.
 pub fn smaller(a: u8, b: u8) -> u8
-    ensures { λ r. ⌜ r ≡ cond (ltb b a) b a ⌝ }
+    ensures { λ r. ⌜ r ≡ min a b ⌝ }
 {
     if b < a { b } else { a }
 }
