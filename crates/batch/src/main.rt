@@ -8,8 +8,11 @@ use libc::STDOUT_FILENO;
 use settle::Settled;
 use string::Decoded;
 ghost use mathlib.Core.Path.{_≡_};
-ghost use Prim.Native.Nat.{_≤_, _<_};
-ghost use lib.ListN.{length};
+ghost use Prim.Native.Nat.{_+_, _*_, _≤_};
+ghost use lib.Dec.{eqb};
+ghost use lib.ListN.{length, getD, drop, replicate};
+ghost use Rattle.scan.specs.Run.{run};
+ghost use Rattle.scan.specs.Sets.{only};
 
 // The first bytes of a line are written, and its end.
 fn write_line(line: &mut [u8], at: usize)
@@ -58,7 +61,9 @@ fn answer_words(line: &mut [u8], words: &[u8])
 }
 
 // Every byte of a buffer from an offset on is 165 still.
-fn is_kept(out: &[u8], from: usize) -> bool {
+fn is_kept(out: &[u8], from: usize) -> bool
+    ensures { λ r. ⌜ r ≡ eqb (run (only 165) (drop from (now (out .entry)))) (length (drop from (now (out .entry)))) ⌝ }
+{
     let mut i = from;
     while i < out.len() {
         if out[i] != 165 {
@@ -69,8 +74,9 @@ fn is_kept(out: &[u8], from: usize) -> bool {
     true
 }
 
+// Every byte becomes 165.
 fn fill(out: &mut [u8])
-    ensures { λ r. ⌜ length (now (out .exit)) ≡ length (now (out .entry)) ⌝ }
+    ensures { λ r. ⌜ (length (now (out .exit)) ≡ length (now (out .entry))) × (now (out .exit) ≡ replicate (length (now (out .entry))) 165) ⌝ }
 {
     let mut i = 0;
     while i < out.len() {
@@ -177,7 +183,7 @@ fn operation(line: &mut [u8], letter: u8, code: u8, text: &[u8], out: &mut [u8])
 // Four bytes, the least first.
 fn number_at(head: &[u8; 10], at: usize) -> usize
     requires { ⌜ at ≤ 6 ⌝ }
-    ensures { λ r. ⌜ r < 4294967296 ⌝ }
+    ensures { λ r. ⌜ r ≡ getD (now (head .entry)) at 0 + 256 * getD (now (head .entry)) (at + 1) 0 + 65536 * getD (now (head .entry)) (at + 2) 0 + 16777216 * getD (now (head .entry)) (at + 3) 0 ⌝ }
 {
     lines::wide(head[at])
         + 256 * lines::wide(head[at + 1])

@@ -5,6 +5,7 @@ use err::Reading;
 use err::Span;
 use err::StringLit;
 ghost use mathlib.Core.Path.{_≡_};
+ghost use mathlib.Core.Bool.{cond};
 ghost use Prim.Native.Nat.{_≤_, _<_};
 ghost use lib.ListN.{length};
 
@@ -78,8 +79,9 @@ pub fn add_kind(line: &mut [u8], kind: u64, n: usize) -> usize
     add_offset(line, at, n)
 }
 
+// 1 for true, 0 for false.
 fn truth(value: bool) -> u64
-    ensures { λ r. ⌜ r ≤ 1 ⌝ }
+    ensures { λ r. ⌜ r ≡ cond value 1 0 ⌝ }
 {
     if value { 1 } else { 0 }
 }
