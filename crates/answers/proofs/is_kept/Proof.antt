@@ -1,4 +1,4 @@
--- `batch::is_kept` meets its contract.
+-- `answers::is_kept` meets its contract.
 -- Assumes nothing.
 use mathlib.Core.Path.{_≡_, refl, sym, _∙_}
 use mathlib.Core.Bool.{Bool, true, false}
@@ -12,8 +12,8 @@ use borrow.Author.Tests.{eq-eqb, ne-eqb}
 use borrow.Author.Needs.{needs}
 use Rattle.scan.specs.Run.{run}
 use Rattle.scan.specs.Sets.{only}
-use Rattle.batch.proofs.is_kept.Statement.{statement}
-use Rattle.batch.proofs.is_kept.Tie as tie
+use Rattle.answers.proofs.is_kept.Statement.{statement}
+use Rattle.answers.proofs.is_kept.Tie as tie
 
 abbrev kept : List ℕ → Bool
 kept s = eqb (run (only 165) s) (length s)

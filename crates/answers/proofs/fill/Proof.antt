@@ -1,4 +1,4 @@
--- `batch::fill` meets its contract.
+-- `answers::fill` meets its contract.
 -- Assumes nothing.
 use mathlib.Core.Path.{_≡_, refl, sym, ap, _∙_}
 use mathlib.Core.List.{List, [], _∷_, _++_}
@@ -8,8 +8,8 @@ use native.Mathlib.Omega.{arith}
 use lib.ListN.{length, take, set, length-set, replicate, replicate-append-replicate}
 use lib.Seq.{take-all, take-suc-set}
 use borrow.Author.Needs.{needs}
-use Rattle.batch.proofs.fill.Statement.{statement}
-use Rattle.batch.proofs.fill.Tie as tie
+use Rattle.answers.proofs.fill.Statement.{statement}
+use Rattle.answers.proofs.fill.Tie as tie
 
 -- one byte more
 filled : (s : List ℕ) (i : ℕ) → i < length s → take i s ≡ replicate i 165 → take (i + 1) (set s i 165) ≡ replicate (i + 1) 165
