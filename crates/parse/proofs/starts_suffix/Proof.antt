@@ -1,6 +1,5 @@
 -- `parse::starts_suffix` meets its contract.
 -- Assumes nothing.
-use mathlib.Core.Path.{sym}
 use mathlib.Core.Bool.{or-true, or-false}
 use native.Mathlib.Omega.{arith}
 use borrow.Author.Tests.{eq-eqb, ne-eqb, le-leb, lt-leb}

@@ -1,6 +1,5 @@
 -- `validation::fault` meets its contract.
 -- Assumes nothing.
-use native.Mathlib.Omega.{arith}
 use borrow.Author.Needs.{needs}
 use Rattle.validation.proofs.Faults.{fault-is}
 use Rattle.validation.proofs.fault.Statement.{statement}
