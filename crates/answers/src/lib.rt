@@ -2,7 +2,7 @@
 use err::ParseErrorKind;
 use err::Reading;
 use err::Span;
-use integer::IntegerValue;
+use integer_value::IntegerValue;
 use libc::STDOUT_FILENO;
 use settle::Settled;
 use string::Decoded;

@@ -13,8 +13,8 @@ use Rattle.grammar.specs.Meaning as worth
 use Rattle.form.specs.Form.{bareForm, faultOf, integerForm, reducedForm}
 use Rattle.form.specs.Reduced.{reduce}
 use Rattle.grammar.specs.Decimal.{Decimal}
-use Rattle.integer.specs.Value.{within}
-use Rattle.integer.specs.declared.Within.the-variants.{Number, Over}
+use Rattle.integer_value.specs.Value.{within}
+use Rattle.integer_value.specs.declared.Within.the-variants.{Number, Over}
 use Rattle.utf8.specs.Utf8.{Scalar, encode}
 use Rattle.quoting.specs.Styled.{styledForm, styledForms}
 use Rattle.quoting.proofs.Styles.{char-style, byte-style}

@@ -22,7 +22,7 @@ use Rattle.grammar.specs.Meaning as worth
 use Rattle.form.specs.Form.{bareForm}
 use Rattle.boolean.specs.Bool.{boolRead, trueText, falseText}
 use Rattle.integer.proofs.Suffixed.{never}
-use Rattle.integer.proofs.Values.{read-ends}
+use Rattle.integer.proofs.Parts.{read-ends}
 use Rattle.float.specs.Float.{floatRead}
 use Rattle.character.proofs.Values.{char-value}
 use Rattle.string.specs.String.{kindOf, stringRead}

@@ -39,16 +39,6 @@ abbrev pub bareFormBy : List ℕ → Outcome → List ℕ
 bareFormBy s (refused n p) = []
 bareFormBy s (accepted k e vs) = bareForm (worthOf k s vs) (drop e s)
 
--- 01: "A reading holds kind, start of suffix": the kind of an accepted one, else 0; serves contracts between functions
-abbrev pub kindIn : Outcome → ℕ
-kindIn (refused n p) = 0
-kindIn (accepted k e vs) = k
-
--- and the start of its suffix, likewise
-abbrev pub suffixIn : Outcome → ℕ
-suffixIn (refused n p) = 0
-suffixIn (accepted k e vs) = e
-
 -- a form is there, and a buffer of `have` bytes has room for the part before the suffix; serves contracts between functions
 pub record Roomy (s : List ℕ) (o : Outcome) (have : ℕ) : Type 0 where
   pub form : bareBy s o ≡ len (length (bareFormBy s o))

@@ -7,7 +7,7 @@ use lib.Dec.{eqb}
 use Rattle.err.specs.Outcome.{Values, truth, digits, ends, value, decoded}
 use Rattle.grammar.specs.Meaning.{Worth}
 use Rattle.grammar.specs.Meaning as worth
-use Rattle.integer.specs.Value.{number}
+use Rattle.integer_value.specs.Value.{number}
 use Rattle.string.specs.String.{stringValue}
 use Rattle.string.specs.declared.Kind.the-variants.{Text, Bytes, C}
 use Rattle.scaling.specs.Scaled.{part, floatAt}

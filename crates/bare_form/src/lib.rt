@@ -7,7 +7,7 @@ use err::ParseErrorKind;
 use err::Reading;
 use err::Span;
 use float_form::FormLen;
-use integer::Within;
+use integer_value::Within;
 use quoting::Style;
 use string::Kind;
 ghost use mathlib.Core.Path.{_≡_};
@@ -21,10 +21,11 @@ ghost use Rattle.buffer.specs.Buffer.{Wrote};
 ghost use Rattle.utf8.specs.Utf8.{Scalar};
 ghost use Rattle.grammar.specs.Meaning as worth;
 ghost use Rattle.form.specs.Form.{bareForm};
-ghost use Rattle.integer.specs.Value.{within, number};
+ghost use Rattle.integer_value.specs.Value.{within, number};
 ghost use Rattle.scaling.specs.Scaled.{part};
 ghost use Rattle.literal.specs.Readings.{readAt};
-ghost use Rattle.bare_form.specs.Bare.{bareOf, bareBy, bareFormBy, kindIn, Roomy};
+ghost use Rattle.numbers.specs.Numbers.{kindIn};
+ghost use Rattle.bare_form.specs.Bare.{bareOf, bareBy, bareFormBy, Roomy};
 
 // How long a form is without its suffix, or why there is none.
 pub enum Bare {
@@ -58,7 +59,7 @@ pub fn number_of(text: &[u8], lit: IntegerLit) -> Within
     let start = lit.start_main_part;
     let end = lit.end_main_part;
     let base = lit.base;
-    integer::number_within(&text[start..end], base, 18446744073709551615)
+    integer_value::number_within(&text[start..end], base, 18446744073709551615)
 }
 
 fn integer_len(text: &[u8], lit: IntegerLit) -> Bare

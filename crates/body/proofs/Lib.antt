@@ -1,7 +1,6 @@
 pub mod Steps
 pub mod Within
 pub mod Bodies
-pub mod Blocks
 pub mod Runs
 pub mod Codes
 pub mod Strides

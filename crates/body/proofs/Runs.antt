@@ -18,7 +18,8 @@ use Rattle.escape.specs.Allows.{unicode, allowNul}
 use Rattle.escape.specs.declared.Allowed.{Allowed}
 use Rattle.escape.specs.declared.Unescaped.the-variants.{Byte}
 use Rattle.body.specs.Code.{Stopped}
-use Rattle.body.specs.Step.{close, refuse, Next, piece, stop, plainOf, plainByte, stepOf, rawStepOf}
+use Rattle.plain_run.specs.Plain.{plainByte}
+use Rattle.body.specs.Step.{close, refuse, Next, piece, stop, plainOf, stepOf, rawStepOf}
 use Rattle.body.specs.Body.{push, bodyBy}
 use Rattle.body.specs.Pieces.{Char}
 use Rattle.body.proofs.Steps as steps

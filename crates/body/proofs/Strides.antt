@@ -22,7 +22,8 @@ use Rattle.escape.specs.declared.Unescaped.{Unescaped}
 use Rattle.escape.specs.declared.Unescaped.the-variants.{Nothing, Byte}
 use Rattle.escape_code.proofs.Codes.{code-some}
 use Rattle.escape_code.proofs.At.{letter-escape, x-escape, u-escape}
-use Rattle.body.specs.Step.{Next, piece, stop, ofEscape, backslashOf, plainByte, stepOf}
+use Rattle.plain_run.specs.Plain.{plainByte}
+use Rattle.body.specs.Step.{Next, piece, stop, ofEscape, backslashOf, stepOf}
 use Rattle.body.specs.Code.{nextCode, codeOf, Stopped}
 use Rattle.body.specs.Stride.{nextAt, valueIn, breakEnd}
 use Rattle.body.proofs.Steps as steps

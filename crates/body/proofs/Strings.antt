@@ -11,8 +11,8 @@ use Rattle.scan.specs.Run.{run}
 use Rattle.scan.specs.Sets.{only}
 use Rattle.scan.proofs.Cases.{cond-eq, cond-lt, by-lt}
 use Rattle.scan.proofs.Runs.{run-le}
-use Rattle.parse.specs.Suffix.{suffixFault}
-use Rattle.parse.proofs.Suffixes.{fault-none, fault-small}
+use Rattle.suffix.specs.Suffix.{suffixFault}
+use Rattle.suffix.proofs.Suffixes.{fault-none, fault-small}
 use Rattle.escape.specs.declared.Allowed.{Allowed}
 use Rattle.body.specs.Step.{End, close, refuse, Next, endOf, stepOf, rawStepOf}
 use Rattle.body.specs.Body.{Fitting, Body, bodyBy, body, rawBody, Measures}

@@ -10,7 +10,7 @@ use Rattle.err.specs.Numbers.{numberOf}
 use Rattle.err.specs.Reading.{placeOf, hashesOf}
 use Rattle.scan.specs.Run.{run}
 use Rattle.scan.specs.Sets.{only}
-use Rattle.parse.specs.Suffix.{suffixFault}
+use Rattle.suffix.specs.Suffix.{suffixFault}
 use Rattle.escape.specs.declared.Allowed.{Allowed}
 use Rattle.body.specs.Step.{End, close, refuse}
 use Rattle.body.specs.Body.{Body, body, rawBody}

@@ -1,7 +1,7 @@
 -- One step through a quoted or a raw body, as the loops of litrs's `unescape_string` and `scan_raw_string` (escape.rs) take it.
 -- Assumes nothing.
 use Prim.Native.Nat.{ℕ, _+_}
-use mathlib.Core.Bool.{Bool, true, false, cond, not, _&&_}
+use mathlib.Core.Bool.{cond, not, _&&_}
 use mathlib.Core.List.{List, [], _∷_}
 use lib.Dec.{eqb, ltb, leb}
 use lib.ListN.{length, getD, drop}
@@ -73,14 +73,6 @@ plainOf k b =
 unfoldable pub stepOf : Allowed → List ℕ → Next
 stepOf k [] = stop (refuse 30 none)
 stepOf k (b ∷ s) = cond (eqb b 92) (backslashOf k (b ∷ s)) (plainOf k b)
-
--- the last arm, `_ => i += 1`: a byte that stands for itself (proofs/Runs: so it does in a quoted and in a raw body)
-unfoldable pub plainByte : Allowed → ℕ → Bool
-plainByte k b =
-    cond (eqb b 92) false
-    (cond (eqb b 13) false
-    (cond (eqb b 34) false
-    (cond (eqb b 0) (allowNul k) (cond (ltb 127 b) (unicode k) true))))
 
 -- ---- raw bodies
 

@@ -238,7 +238,7 @@ pub fn body_len(s: &[u8], k: Allowed, style: Style) -> usize
             i += escape_code::code_len(c);
             continue;
         }
-        let e = body::plain_end(s, i, k);
+        let e = plain_run::plain_end(s, i, k);
         if e == i {
             return n;
         }
@@ -300,7 +300,7 @@ pub fn put_body(out: &mut [u8], s: &[u8], k: Allowed, style: Style) -> usize
             i = t.next;
             continue;
         }
-        let e = body::plain_end(s, i, k);
+        let e = plain_run::plain_end(s, i, k);
         if e == i {
             return at;
         }

@@ -6,7 +6,7 @@ use Rattle.err.specs.Outcome.{none, between, raw}
 use Rattle.scan.specs.Sets.{except, only}
 use Rattle.parse.specs.Class.{classOf}
 use Rattle.parse.specs.Sets.{blank, suffixRest}
-use Rattle.parse.specs.Suffix.{suffixFault, faultFrom, suffixStart}
+use Rattle.suffix.specs.Suffix.{suffixFault, faultFrom, suffixStart}
 use Rattle.utf8.specs.Utf8.{encode}
 use Rattle.utf8.specs.Cut.{tail, isBoundary}
 use Rattle.escape.specs.declared.Allowed.{Allowed}

@@ -7,7 +7,8 @@ ghost use lib.ListN.{length, getD, take, drop};
 ghost use Rattle.scan.specs.Run.{run};
 ghost use Rattle.buffer.specs.Buffer.{Wrote};
 ghost use Rattle.utf8.specs.Cut.{lastLen};
-ghost use Rattle.body.specs.Step.{backslashOf, plainByte};
+ghost use Rattle.plain_run.specs.Plain.{plainByte};
+ghost use Rattle.body.specs.Step.{backslashOf};
 ghost use Rattle.body.specs.Stride.{nextAt, valueIn};
 ghost use Rattle.body.specs.Body.{body};
 
@@ -71,7 +72,7 @@ fn put_few(out: &mut [u8], s: &[u8], from: usize, k: Allowed) -> usize
             return i;
         }
         let b = s[from + i];
-        if !body::is_plain(b, k) {
+        if !plain_run::is_plain(b, k) {
             return i;
         }
         out[i] = b;
@@ -90,7 +91,7 @@ fn put_run(out: &mut [u8], s: &[u8], from: usize, k: Allowed) -> usize
         return n;
     }
     let i = from + n;
-    let e = body::block_end(s, i, k);
+    let e = plain_run::block_end(s, i, k);
     n + buffer::put_bytes(&mut out[n..], &s[i..e])
 }
 
@@ -102,7 +103,7 @@ fn put_next(out: &mut [u8], s: &[u8], from: usize, k: Allowed) -> usize
     let next = from + 1;
     if scan::byte_at(s, next) == b'\\' {
         let b = s[from];
-        if body::is_plain(b, k) {
+        if plain_run::is_plain(b, k) {
             return buffer::put_one(out, b);
         }
     }

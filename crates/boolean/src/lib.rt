@@ -28,7 +28,8 @@ fn is_false(text: &[u8]) -> bool
     text[4] == b'e'
 }
 
-fn is_true(text: &[u8]) -> bool
+// Whether a text is `true`.
+pub fn is_true(text: &[u8]) -> bool
     ensures { λ r. ⌜ r ≡ same (now (text .entry)) trueText ⌝ }
 {
     if text.len() != 4 {

@@ -16,7 +16,7 @@ use Rattle.err.specs.Outcome.{Outcome, Place, Values, none, refused, accepted, 
 use Rattle.scan.specs.Run.{run}
 use Rattle.scan.specs.Sets.{except}
 use Rattle.scan.proofs.Cases.{cond-in, cond-eq, cond-lt, clash}
-use Rattle.parse.specs.Suffix.{suffixFault}
+use Rattle.suffix.specs.Suffix.{suffixFault}
 use Rattle.parse.proofs.Classes.{both}
 use Rattle.utf8.specs.Utf8.{Scalar, encode}
 use Rattle.utf8.specs.Decode.{decode}
@@ -30,10 +30,12 @@ use Rattle.escape.specs.Escape as escape
 use Rattle.escape.specs.Pieces.{Esc}
 use Rattle.escape.specs.declared.Unescaped.{Unescaped}
 use Rattle.escape.proofs.Exact.{Escapes, escape-sound, escaped, first-two}
-use Rattle.character.specs.Single.{kindOf, offsetOf, allowedIn, unterminated, overlong, empty, suffixedAt, closedAt, Quoted, decodedBy, plainAt, scalarOf, escapedBy, escapedAt, special, quoteAt, firstAt, closedBy, singleAt, charRead, byteRead}
+use Rattle.single_quote.specs.Quote.{kindOf, offsetOf, allowedIn, unterminated, overlong, empty}
+use Rattle.single_quote.specs.Content.{Quoted, decodedBy, plainAt, special, quoteAt}
+use Rattle.single_quote.specs.declared.Quote.{Quote}
+use Rattle.single_quote.specs.declared.Quote.the-variants.{Char, Byte}
+use Rattle.character.specs.Single.{suffixedAt, closedAt, scalarOf, escapedBy, escapedAt, firstAt, closedBy, singleAt, charRead, byteRead}
 use Rattle.character.specs.Parts.{openingOf, Plain, Content, char, byte, escape, Tiled}
-use Rattle.character.specs.declared.Quote.{Quote}
-use Rattle.character.specs.declared.Quote.the-variants.{Char, Byte}
 use Rattle.character.proofs.Within.{quote-there, escape-refused, suffix-refused}
 
 -- ---- a character that stands for itself, by its first byte

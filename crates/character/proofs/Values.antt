@@ -15,10 +15,11 @@ use Rattle.escape.specs.declared.Unescaped.{Unescaped}
 use Rattle.escape.specs.declared.Unescaped.the-variants as unescaped
 use Rattle.escape.proofs.Values.{Unwraps, EscapeUnwraps, escape-unwraps}
 use Rattle.escape.proofs.Exact.{escaped}
-use Rattle.character.specs.Single.{allowedIn, scalarOf, charRead, byteRead, readBy, ValueFits}
+use Rattle.single_quote.specs.Quote.{allowedIn, ValueFits}
+use Rattle.single_quote.specs.declared.Quote.{Quote}
+use Rattle.single_quote.specs.declared.Quote.the-variants.{Char, Byte}
+use Rattle.character.specs.Single.{scalarOf, charRead, byteRead, readBy}
 use Rattle.character.specs.Parts.{Content, char, byte, escape}
-use Rattle.character.specs.declared.Quote.{Quote}
-use Rattle.character.specs.declared.Quote.the-variants.{Char, Byte}
 use Rattle.character.proofs.Exact.{no-kind, char-sound, byte-sound}
 
 unwraps : (k : Allowed) {t : List ℕ} {u : Unescaped} → Esc k t u → Unwraps k u

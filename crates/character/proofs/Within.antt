@@ -9,8 +9,8 @@ use lib.Dec.{eqb, ltb}
 use lib.ListN.{length, getD, drop, length-drop, List·getD-eq-default}
 use Rattle.err.specs.Outcome.{Place, none, between, shift, Ends, RefusedIn}
 use Rattle.scan.proofs.Cases.{cond-in, by-lt}
-use Rattle.parse.specs.Suffix.{suffixFault}
-use Rattle.parse.proofs.Suffixes.{fault-none, fault-cases}
+use Rattle.suffix.specs.Suffix.{suffixFault}
+use Rattle.suffix.proofs.Suffixes.{fault-none, fault-cases}
 use Rattle.utf8.specs.Decode.{decode}
 use Rattle.utf8.specs.declared.Decoded.{Decoded}
 use Rattle.utf8.specs.declared.Decoded.the-variants as decoded
@@ -19,9 +19,11 @@ use Rattle.escape.specs.Escape.{Escaped, value, bad, escapeOf}
 use Rattle.escape.specs.declared.Allowed.{Allowed}
 use Rattle.escape.specs.declared.Unescaped.{Unescaped}
 use Rattle.escape.proofs.Within.{escape-in}
-use Rattle.character.specs.Single.{allowedIn, Quoted, content, fault, decodedBy, plainAt, escapedBy, escapedAt, special, quoteAt, firstAt}
-use Rattle.character.specs.declared.Quote.{Quote}
-use Rattle.character.specs.declared.Quote.the-variants.{Char, Byte}
+use Rattle.single_quote.specs.Quote.{allowedIn}
+use Rattle.single_quote.specs.Content.{Quoted, content, fault, decodedBy, plainAt, special, quoteAt}
+use Rattle.single_quote.specs.declared.Quote.{Quote}
+use Rattle.single_quote.specs.declared.Quote.the-variants.{Char, Byte}
+use Rattle.character.specs.Single.{escapedBy, escapedAt, firstAt}
 
 pub quote-there : (s : List ℕ) (at : ℕ) → getD s at 0 ≡ 39 → at < length s
 quote-there s at e = by-lt at (length s) (λ h. h) (λ h. absurd (omega (arith, List·getD-eq-default s 0 h)))

@@ -5,13 +5,15 @@ use mathlib.Core.Path.{_≡_}
 use mathlib.Core.Bool.{false}
 use mathlib.Core.List.{List, [], _∷_, _++_}
 use lib.ListN.{length}
-use Rattle.parse.specs.Suffix.{suffixFault}
+use Rattle.suffix.specs.Suffix.{suffixFault}
 use Rattle.utf8.specs.Utf8.{Scalar, encode}
 use Rattle.escape.specs.Pieces.{Esc}
 use Rattle.escape.specs.declared.Unescaped.{Unescaped}
-use Rattle.character.specs.Single.{allowedIn, special, scalarOf}
-use Rattle.character.specs.declared.Quote.{Quote}
-use Rattle.character.specs.declared.Quote.the-variants.{Char, Byte}
+use Rattle.single_quote.specs.Quote.{allowedIn}
+use Rattle.single_quote.specs.Content.{special}
+use Rattle.single_quote.specs.declared.Quote.{Quote}
+use Rattle.single_quote.specs.declared.Quote.the-variants.{Char, Byte}
+use Rattle.character.specs.Single.{scalarOf}
 
 -- `'`, `b'`
 abbrev pub openingOf : Quote → List ℕ

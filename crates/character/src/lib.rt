@@ -1,139 +1,18 @@
 // Char and byte literals: one character or byte between single quotes.
-use err::ByteLit;
-use err::CharLit;
 use err::ParseErrorKind;
 use err::Reading;
 use err::Span;
-use escape::Allowed;
 use escape::Escape;
 use escape::Unescaped;
-use parse::Suffix;
-use utf8::Decoded;
+use single_quote::Inner;
+use single_quote::Quote;
+use suffix::Suffix;
 ghost use mathlib.Core.Path.{_≡_};
 ghost use Prim.Native.Nat.{_≤_, _<_};
 ghost use lib.ListN.{length};
-ghost use Rattle.err.specs.Outcome as outcome;
-ghost use Rattle.err.specs.Numbers.{numberOf};
 ghost use Rattle.err.specs.Reading.{outcomeOf};
-ghost use Rattle.character.specs.Single.{
-  kindOf,
-  offsetOf,
-  allowedIn,
-  unterminated,
-  overlong,
-  empty,
-  singleOf,
-  suffixedAt,
-  closedAt,
-  innerOf,
-  plainAt,
-  scalarOf,
-  escapedAt,
-  special,
-  quoteAt,
-  firstAt,
-  singleAt,
-  opensBy,
-  startFault,
-  readBy,
-  ValueFits,
-};
-
-// Which of the two kinds.
-pub enum Quote {
-    Char,
-    Byte,
-}
-
-impl Quote {
-    // Where the character starts: behind `'` or `b'`.
-    fn offset(self) -> usize
-        ensures { λ r. ⌜ r ≡ offsetOf self ⌝ }
-    {
-        match self {
-            Quote::Char => 1,
-            Quote::Byte => 2,
-        }
-    }
-
-    fn allowed(self) -> Allowed
-        ensures { λ r. ⌜ r ≡ allowedIn self ⌝ }
-    {
-        match self {
-            Quote::Char => Allowed::Text,
-            Quote::Byte => Allowed::Bytes,
-        }
-    }
-
-    fn unterminated(self) -> ParseErrorKind
-        ensures { λ r. ⌜ numberOf r ≡ unterminated self ⌝ }
-    {
-        match self {
-            Quote::Char => ParseErrorKind::UnterminatedCharLiteral,
-            Quote::Byte => ParseErrorKind::UnterminatedByteLiteral,
-        }
-    }
-
-    fn overlong(self) -> ParseErrorKind
-        ensures { λ r. ⌜ numberOf r ≡ overlong self ⌝ }
-    {
-        match self {
-            Quote::Char => ParseErrorKind::OverlongCharLiteral,
-            Quote::Byte => ParseErrorKind::OverlongByteLiteral,
-        }
-    }
-
-    fn empty(self) -> ParseErrorKind
-        ensures { λ r. ⌜ numberOf r ≡ empty self ⌝ }
-    {
-        match self {
-            Quote::Char => ParseErrorKind::EmptyCharLiteral,
-            Quote::Byte => ParseErrorKind::EmptyByteLiteral,
-        }
-    }
-
-    // Whether a text starts with the quote.
-    fn opens(self, text: &[u8]) -> bool
-        ensures { λ r. ⌜ r ≡ opensBy self (now (text .entry)) ⌝ }
-    {
-        match self {
-            Quote::Char => scan::byte_at(text, 0) == b'\'',
-            Quote::Byte => {
-                if scan::byte_at(text, 0) != b'b' {
-                    return false;
-                }
-                scan::byte_at(text, 1) == b'\''
-            }
-        }
-    }
-
-    // What another start is refused with.
-    fn refused_start(self) -> Reading
-        ensures { λ r. ⌜ outcomeOf r ≡ startFault self ⌝ }
-    {
-        match self {
-            Quote::Char => err::perr(ParseErrorKind::DoesNotStartWithQuote, 0, 1),
-            Quote::Byte => err::perr_nowhere(ParseErrorKind::InvalidByteLiteralStart),
-        }
-    }
-
-    // The reading of a literal of the kind.
-    fn reading(self, value: u32, start_suffix: usize) -> Reading
-        requires { ⌜ ValueFits self value ⌝ }
-        ensures { λ r. ⌜ outcomeOf r ≡ outcome.accepted (kindOf self) «start_suffix» (outcome.value value) ⌝ }
-    {
-        match self {
-            Quote::Char => Reading::Char(CharLit {
-                value,
-                start_suffix,
-            }),
-            Quote::Byte => Reading::Byte(ByteLit {
-                value: value as u8,
-                start_suffix,
-            }),
-        }
-    }
-}
+ghost use Rattle.single_quote.specs.Content.{innerOf};
+ghost use Rattle.character.specs.Single.{singleOf, suffixedAt, closedAt, scalarOf, escapedAt, firstAt, singleAt, readBy};
 
 // The value and where the suffix starts, or why a text is no such literal.
 pub enum Single {
@@ -146,7 +25,10 @@ fn suffixed(text: &[u8], start: usize, value: u32, q: Quote) -> Single
     requires { ⌜ start ≤ length (now text) ⌝ }
     ensures { λ r. ⌜ singleOf q r ≡ suffixedAt q (now (text .entry)) start value ⌝ }
 {
-    let checked = parse::check_suffix(&text[start..]);
+    if start == text.len() {
+        return Single::Value(value, start);
+    }
+    let checked = suffix::check_suffix(&text[start..]);
     let Suffix::Bad(kind) = checked else {
         return Single::Value(value, start);
     };
@@ -166,48 +48,6 @@ fn closed(text: &[u8], at: usize, value: u32, q: Quote) -> Single
         return Single::Refused(q.unterminated(), Span::Nowhere);
     }
     Single::Refused(q.overlong(), Span::Nowhere)
-}
-
-// What stands between the quotes: its number and how many bytes it has, or the refusal.
-pub enum Inner {
-    Value(u32, usize),
-    Refused(ParseErrorKind, Span),
-}
-
-// A char that stands for itself.
-fn plain_char(text: &[u8], at: usize) -> Inner
-    ensures { λ r. ⌜ innerOf r ≡ plainAt Quote.Char (now (text .entry)) at ⌝ }
-{
-    let found = utf8::decode_char(text, at);
-    let Decoded::Char { scalar, len } = found else {
-        return Inner::Refused(ParseErrorKind::UnterminatedCharLiteral, Span::Nowhere);
-    };
-    Inner::Value(scalar, len)
-}
-
-// A byte that stands for itself.
-fn plain_byte(text: &[u8], at: usize) -> Inner
-    requires { ⌜ at < length (now text) ⌝ }
-    ensures { λ r. ⌜ innerOf r ≡ plainAt Quote.Byte (now (text .entry)) at ⌝ }
-{
-    let b = text[at];
-    if b < 128 {
-        return Inner::Value(b as u32, 1);
-    }
-    Inner::Refused(
-        ParseErrorKind::NonAsciiInByteLiteral,
-        Span::Between(at, at + 1),
-    )
-}
-
-fn plain(text: &[u8], at: usize, q: Quote) -> Inner
-    requires { ⌜ at < length (now text) ⌝ }
-    ensures { λ r. ⌜ innerOf r ≡ plainAt q (now (text .entry)) at ⌝ }
-{
-    match q {
-        Quote::Char => plain_char(text, at),
-        Quote::Byte => plain_byte(text, at),
-    }
 }
 
 // The number of a value. An escape is never a dropped line break.
@@ -241,19 +81,6 @@ fn escaped(text: &[u8], at: usize, q: Quote) -> Inner
     }
 }
 
-// Whether LF, tab or CR stands there.
-fn is_special(b: u8) -> bool
-    ensures { λ r. ⌜ r ≡ special b ⌝ }
-{
-    if b == b'\n' {
-        return true;
-    }
-    if b == b'\t' {
-        return true;
-    }
-    b == b'\r'
-}
-
 // The first byte between the quotes.
 fn first(text: &[u8], at: usize, q: Quote) -> Inner
     requires { ⌜ at < length (now text) ⌝ }
@@ -261,9 +88,9 @@ fn first(text: &[u8], at: usize, q: Quote) -> Inner
 {
     let b = text[at];
     if b == b'\'' {
-        return quote_first(text, at, q);
+        return single_quote::quote_first(text, at, q);
     }
-    if is_special(b) {
+    if single_quote::is_special(b) {
         return Inner::Refused(
             ParseErrorKind::UnescapedSpecialWhitespace,
             Span::Between(at, at + 1),
@@ -272,21 +99,7 @@ fn first(text: &[u8], at: usize, q: Quote) -> Inner
     if b == b'\\' {
         return escaped(text, at, q);
     }
-    plain(text, at, q)
-}
-
-// A quote at once: another behind it is one that was not escaped.
-fn quote_first(text: &[u8], at: usize, q: Quote) -> Inner
-    requires { ⌜ at < length (now text) ⌝ }
-    ensures { λ r. ⌜ innerOf r ≡ quoteAt q (now (text .entry)) at ⌝ }
-{
-    if scan::byte_at(text, at + 1) == b'\'' {
-        return Inner::Refused(
-            ParseErrorKind::UnescapedSingleQuote,
-            Span::Between(at, at + 1),
-        );
-    }
-    Inner::Refused(q.empty(), Span::Nowhere)
+    single_quote::plain(text, at, q)
 }
 
 // Of a text that starts with the quote.
@@ -316,6 +129,6 @@ pub fn parse(text: &[u8], q: Quote) -> Reading
     let lit = parse_impl(text, q);
     match lit {
         Single::Value(value, start) => q.reading(value, start),
-        Single::Refused(kind, span) => Reading::Refused(kind, span),
+        Single::Refused(kind, span) => err::perr_at(kind, span),
     }
 }

@@ -13,11 +13,13 @@ use Rattle.err.specs.Outcome.{Values, accepted, value}
 use Rattle.scan.proofs.Cases.{clash}
 use Rattle.escape.specs.declared.Unescaped.{Unescaped}
 use Rattle.escape.specs.declared.Unescaped.the-variants as unescaped
-use Rattle.character.specs.Single.{allowedIn, scalarOf, special, charRead, byteRead}
+use Rattle.single_quote.specs.Quote.{allowedIn}
+use Rattle.single_quote.specs.Content.{special}
+use Rattle.single_quote.specs.declared.Quote.{Quote}
+use Rattle.single_quote.specs.declared.Quote.the-variants.{Char, Byte}
+use Rattle.character.specs.Single.{scalarOf, charRead, byteRead}
 use Rattle.character.specs.Parts.{openingOf, Plain, Content, Tiled}
 use Rattle.character.specs.Parts as parts
-use Rattle.character.specs.declared.Quote.{Quote}
-use Rattle.character.specs.declared.Quote.the-variants.{Char, Byte}
 use Rattle.character.proofs.Exact.{no-kind, char-sound, byte-sound, char-complete, byte-complete}
 use Rattle.grammar.specs.Notation.{Class, byte, _∪_, opt}
 use Rattle.grammar.specs.Suffixes.{SUFFIX}

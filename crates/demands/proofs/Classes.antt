@@ -10,12 +10,12 @@ use lib.ListN.{length}
 use borrow.Author.Tests.{eqb-true, ne-eqb, ltb-true, lt-ltb, not-true}
 use Rattle.scan.specs.Run.{run, All, Stops}
 use Rattle.scan.specs.Sets.{only}
-use Rattle.scan.proofs.Cases.{by-lt, cond-eq, clash}
-use Rattle.scan.proofs.Tables.{everyBelow, alike, agreed}
+use Rattle.scan.proofs.Cases.{cond-eq, clash}
 use Rattle.parse.specs.Class.{classOf}
 use Rattle.parse.specs.Sets.{digit, decDigit, suffixRest}
-use Rattle.parse.specs.Suffix.{suffixStart}
-use Rattle.parse.proofs.Classes.{class-above, within-above, class-underscore-is, dec-digit-is, hex-is, start-is, rest-is}
+use Rattle.suffix.specs.Suffix.{suffixStart}
+use Rattle.parse.proofs.Classes.{everywhere, class-above, within-above, class-underscore-is, dec-digit-is, hex-is}
+use Rattle.suffix.proofs.Starts.{start-is, rest-is}
 use Rattle.grammar.specs.Notation.{Class, range, _∪_, all, begins}
 use Rattle.grammar.specs.Suffixes.{DEC-DIGIT, LOW, XID-START, XID-CONTINUE}
 use Rattle.grammar.specs.Numbers.{BIN-DIGIT, OCT-DIGIT, HEX-DIGIT}
@@ -25,10 +25,6 @@ use Rattle.grammar.proofs.Runs.{T-true, true-T, T-not, and-l, and-r, and-i, or-
 
 pub T-false : (b : Bool) → (T b → ⊥) → b ≡ false
 T-false b n = not-true b (T-true (not b) (T-not b n))
-
--- two tests that agree below 128 and from 128 on are one
-everywhere : (f g : ℕ → Bool) → T (everyBelow (λ b. alike (f b) (g b)) 128) → ((b : ℕ) → 128 ≤ b → f b ≡ g b) → (b : ℕ) → f b ≡ g b
-everywhere f g t h b = by-lt b 128 (agreed f g 128 t b) (h b)
 
 -- ---- digits
 

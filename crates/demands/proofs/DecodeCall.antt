@@ -18,17 +18,17 @@ use Rattle.string.specs.declared.Kind.{Kind}
 use Rattle.string.specs.declared.Kind.the-variants.{Text, Bytes, C}
 use Rattle.string.proofs.Refused.{refused-in}
 use Rattle.string.proofs.Values.{value-short}
-use Rattle.literal.specs.Checks.{textFault}
+use Rattle.input.specs.Checks.{textFault}
+use Rattle.input.proofs.Checks.{long-fault, utf8-fault, no-fault}
 use Rattle.literal.specs.Decodes.{checkedDecode, checkedBuffer, kindCoded, decodeBy, bufferBy, decodeAt, bufferAt}
 use Rattle.literal.specs.declared.KindFound.{KindFound}
 use Rattle.literal.specs.declared.KindFound.the-variants as found
-use Rattle.literal.proofs.Checks.{long-fault, utf8-fault, no-fault}
 use Rattle.demands.specs.Demand1.{Readable, Decodes, DecodeAnswered, DecodeAnswers}
 use Rattle.demands.proofs.Numbered.{text-refused, or-42}
 
 -- ---- codes
 
-coded : (k : Kind) → kindCoded (kindOf k) ≡ found.Kind k
+pub coded : (k : Kind) → kindCoded (kindOf k) ≡ found.Kind k
 unfolding kindCoded
 coded Text = refl
 coded Bytes = refl

@@ -18,12 +18,12 @@ use Rattle.scan.proofs.Cases.{clash}
 use Rattle.scan.proofs.Runs.{all-append as both-all}
 use Rattle.parse.specs.Class.{classOf}
 use Rattle.parse.specs.Sets.{digit, decDigit, startsE}
-use Rattle.parse.specs.Suffix.{suffixFault}
+use Rattle.suffix.specs.Suffix.{suffixFault}
 use Rattle.parse.proofs.Classes.{digit-ten-cases, dec-digit-ends}
 use Rattle.float.specs.Float.{floatRead}
 use Rattle.float.specs.Parts.{Fraction, no-fraction, fraction, Sign, unsigned, plus, minus, Exponent, no-exponent, exponent, FloatParts}
 use Rattle.float.proofs.Sound.{sound}
-use Rattle.float.proofs.Complete.{complete, whole-longest, no-period}
+use Rattle.float.proofs.Complete.{complete, rest-stops, whole-longest, no-period}
 use Rattle.grammar.specs.Notation.{Lang, Class, begins, byte, _∪_, one, many, text, _·_, _or_, opt, Longest}
 use Rattle.grammar.specs.Suffixes.{DEC-DIGIT, LOW, E, SUFFIX, SUFFIX-NO-E}
 use Rattle.grammar.specs.Numbers.{SIGN, DEC-LITERAL, FLOAT-EXPONENT, POINT-PART, FRACTION-PART, EXPONENT-PART, FLOAT-LITERAL}
@@ -34,9 +34,9 @@ use Rattle.grammar.proofs.Runs.{T-true, true-T, T-not, and-i, or-l, or-r, or-e,
 use Rattle.grammar.proofs.Integers.{Dec, dec-open, dec-all, dec-apart}
 use Rattle.grammar.proofs.Floats.{float-iff}
 use Rattle.demands.specs.Demand1.{Readable}
-use Rattle.demands.specs.Demand2.{part}
+use Rattle.scaling.specs.Scaled.{part}
 use Rattle.demands.proofs.Found.{Found}
-use Rattle.demands.proofs.Classes.{T-false, dec-is, decimal-is, digit-is, all-to, all-from, stops-to, stops-from, some-to, some-from}
+use Rattle.demands.proofs.Classes.{dec-is, decimal-is, digit-is, all-to, all-from, stops-to, stops-from, some-to, some-from}
 use Rattle.demands.proofs.Suffixes.{fault-scan, suffix-is, e-is, ending-is}
 
 -- ---- what litrs reads, the scan accepts
@@ -76,12 +76,6 @@ rest-scan p w f ex suf (no-exponent e) o l n t = rw (e, sym (e-is suf) ∙ n e) 
 rest-scan p w f ex suf (exponent letter sign ds e q g d m) o l n t =
     let b : E letter ≡ true = ap (begins E) (sym e) ∙ sym (e-is ex) ∙ q in
     rw (e, b, append-assoc) (e-scan w f ds suf d m l o sign g)
-
-rest-stops : (ex suf : List ℕ) → Exponent ex → Stops (digit 10) suf → Stops (digit 10) (ex ++ suf)
-rest-stops ex suf (no-exponent e) l = rw e l
-rest-stops ex suf (exponent letter sign ds e q g d m) l =
-    let b : E letter ≡ true = ap (begins E) (sym e) ∙ sym (e-is ex) ∙ q in
-    rw e (sym (run-is letter) ∙ T-false (Run letter) (dec-apart letter (or-r (byte 46 letter) (E letter) (true-T (E letter) b))))
 
 -- behind the period
 point-scan : (w ds ex suf : List ℕ) → All (digit 10) ds → Stops (only 95) ds → Exponent ex → suffixFault suf ≡ 0 → Stops (digit 10) suf

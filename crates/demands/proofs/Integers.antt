@@ -10,22 +10,23 @@ use native.Mathlib.Omega.{arith}
 use lib.Dec.{T, eqb}
 use lib.ListN.{length, getD, drop, length-append}
 use lib.Seq.{take-append-seam, drop-append-seam, drop-append-add}
-use borrow.Author.Tests.{eq-eqb, ne-eqb}
+use borrow.Author.Tests.{eq-eqb}
 use Rattle.err.specs.Outcome.{Values, accepted, digits}
 use Rattle.scan.specs.Run.{run, All}
 use Rattle.scan.specs.Sets.{only}
-use Rattle.scan.proofs.Cases.{cond-in, clash}
+use Rattle.scan.proofs.Cases.{clash}
 use Rattle.scan.proofs.Runs.{run-is}
 use Rattle.parse.specs.Class.{classOf}
 use Rattle.parse.specs.Sets.{digit, decDigit}
 use Rattle.parse.proofs.Classes.{digit-cases, digit-ten-cases, dec-digit-ends}
 use Rattle.integer.specs.Integer.{baseAt, integerRead}
 use Rattle.integer.specs.Parts.{Prefixed, dec, bin, oct, hex, IntegerParts, Tiled}
-use Rattle.integer.specs.Value.{bounded}
-use Rattle.integer.specs.Value as litrs
 use Rattle.integer.proofs.Bases.{base-short}
+use Rattle.integer.proofs.OtherDigits.{base-ten}
 use Rattle.integer.proofs.Parts.{sound, complete}
-use Rattle.integer.proofs.Values.{value-of-parts}
+use Rattle.integer_value.specs.Value.{bounded}
+use Rattle.integer_value.specs.Value as litrs
+use Rattle.integer_value.proofs.Values.{value-of-parts}
 use Rattle.grammar.specs.Notation.{Class, begins, _∪_}
 use Rattle.grammar.specs.Suffixes.{DEC-DIGIT, LOW}
 use Rattle.grammar.specs.Numbers.{BIN-DIGIT, OCT-DIGIT, HEX-DIGIT, DEC-LITERAL, RADIX-LITERAL, INTEGER-PART, INTEGER-LITERAL}
@@ -35,7 +36,8 @@ use Rattle.grammar.proofs.Scan.{takeWhile, dropWhile, any, suffixOk, digitsOk, 
 use Rattle.grammar.proofs.Runs.{T-true, true-T, and-l, and-r, and-i, or-l, span-eq, span-all, span-stop, mixed, mixed-all}
 use Rattle.grammar.proofs.Integers.{dec-open, dec-make, dec-all, digits-ok, prefix-is, integer-iff}
 use Rattle.demands.specs.Demand1.{Readable}
-use Rattle.demands.specs.Demand2.{part, GivesInteger}
+use Rattle.demands.specs.Demand2.{GivesInteger}
+use Rattle.scaling.specs.Scaled.{part}
 use Rattle.demands.proofs.ValueCall.{fine-value}
 use Rattle.demands.proofs.Found.{Found}
 use Rattle.demands.proofs.Classes.{T-false, DigitsOf, bin-is, oct-is, dec-is, hex-digit-is, decimal-is, digit-is, value-is, all-to, all-from, stops-to, stops-from, some-to, some-from}
@@ -43,12 +45,7 @@ use Rattle.demands.proofs.Suffixes.{scan-fault, fault-scan, no-e-is, en
 
 -- ---- the base
 
--- a second byte other than b, o and x announces no base
-base-ten : (s : List ℕ) → (getD s 1 0 ≡ 98 → ⊥) → (getD s 1 0 ≡ 111 → ⊥) → (getD s 1 0 ≡ 120 → ⊥) → baseAt s ≡ 10
-unfolding baseAt
-base-ten s b o x = rw (ne-eqb _ _ b, ne-eqb _ _ o, ne-eqb _ _ x) (cond-in (λ (n : ℕ). n ≡ 10) (eqb (getD s 0 0) 48) (λ e. refl) (λ e. refl))
-
--- and each prefix its own
+-- each prefix announces its own
 base-bin : (t : List ℕ) → baseAt (48 ∷ 98 ∷ t) ≡ 2
 unfolding baseAt
 base-bin t = refl

@@ -5,7 +5,7 @@ use native.Mathlib.Omega.{arith}
 use Rattle.scan.specs.Sets.{except, only}
 use Rattle.parse.specs.Class.{classOf}
 use Rattle.parse.specs.Sets.{digit, blank, suffixRest, decDigit, startsE}
-use Rattle.parse.specs.Suffix.{suffixFault, faultFrom, suffixStart}
+use Rattle.suffix.specs.Suffix.{suffixFault, faultFrom, suffixStart}
 use Rattle.utf8.specs.Utf8.{encode}
 use Rattle.utf8.specs.Decode.{lengthFrom, decode2, decode3, decode4, chosen3, chosen4, rest2, rest3, rest4, decodeBy, decode}
 use Rattle.utf8.specs.Valid.{charsWithin, isUtf8}
@@ -14,12 +14,14 @@ use Rattle.escape.specs.Escape.{letterOf, xByte, xEscape, escapeBy, escapeOf}
 use Rattle.body.specs.Step.{lineBreakOf, backslashOf, plainOf, stepOf}
 use Rattle.body.specs.Body.{bodyFrom, bodyBy}
 use Rattle.body.specs.Quote.{suffixed, stringOf}
-use Rattle.character.specs.Single.{special, quoteAt, firstAt, singleAt, charRead}
+use Rattle.single_quote.specs.Content.{special, quoteAt}
+use Rattle.character.specs.Single.{firstAt, singleAt, charRead}
 use Rattle.string.specs.String.{openingBy, stringRead, stringValue}
-use Rattle.integer.specs.Value.{number}
 use Rattle.integer.specs.Integer.{baseAt, prefixLen, mainLen, afterSuffix, afterDigits, integerOf, integerAt, integerRead}
-use Rattle.literal.specs.Checks.{textFault}
-use Rattle.literal.specs.Readings.{startsFloat, numberRead, byteOrStringRead, anyBy, anyRead, entryRead, readAt}
+use Rattle.integer_value.specs.Value.{number}
+use Rattle.entries.specs.Entries.{startsFloat}
+use Rattle.input.specs.Checks.{textFault}
+use Rattle.literal.specs.Readings.{numberRead, byteOrStringRead, anyBy, anyRead, entryRead, readAt}
 use Rattle.float.specs.Float.{notInteger, afterNumber, signEnd, noDigit, afterFraction, badFraction, afterInteger, floatRead}
 use Rattle.grammar.specs.Notation.{bytes}
 use Rattle.grammar.specs.Numbers.{SIGN}

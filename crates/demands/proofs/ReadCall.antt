@@ -10,9 +10,9 @@ use lib.ListN.{length}
 use Rattle.err.specs.Outcome.{Outcome, refused, accepted}
 use Rattle.scan.proofs.Cases.{cond-eq, by-lt}
 use Rattle.utf8.specs.Utf8.{Utf8}
-use Rattle.literal.specs.Checks.{textFault}
+use Rattle.input.specs.Checks.{textFault}
+use Rattle.input.proofs.Checks.{fault-passed}
 use Rattle.literal.specs.Readings.{entryRead, readAt}
-use Rattle.literal.proofs.Checks.{fault-passed}
 use Rattle.literal.proofs.Inside.{entry-inside, start-inside}
 use Rattle.literal.proofs.Refusals.{entry-refused}
 use Rattle.literal.proofs.Answers.{read-bad, read-long, read-not-utf8, read-own, entry-accepted}

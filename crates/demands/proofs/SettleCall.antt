@@ -18,8 +18,9 @@ use Rattle.form.specs.Reduced.{reduce}
 use Rattle.literal.specs.Readings.{readAt}
 use Rattle.bare_form.specs.Worths.{worthOf}
 use Rattle.settle.specs.Settled.{Settle, formed, withheld, measured, measureOf, measureAt, fitted, settleAt, formBy, formAt, bufferAt}
-use Rattle.integer.specs.Value.{Valued}
-use Rattle.desk.specs.Code.{readingNumbers, valueCode, valueAfter, decodeCode, codeOf}
+use Rattle.integer_value.specs.Value.{Valued}
+use Rattle.numbers.specs.Numbers.{readingNumbers}
+use Rattle.desk.specs.Code.{valueCode, valueAfter, decodeCode, codeOf}
 use Rattle.demands.specs.Demand1.{SettleAnswered, SettleAnswers, NumberAnswers}
 use Rattle.demands.proofs.ReadCall.{Coded, coded}
 

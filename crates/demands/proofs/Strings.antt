@@ -21,8 +21,8 @@ use Rattle.string.specs.declared.Kind.the-variants.{Text, Bytes, C}
 use Rattle.string.proofs.Sound.{sound}
 use Rattle.string.proofs.Complete.{complete}
 use Rattle.string.proofs.Decodes.{decode-written}
-use Rattle.literal.specs.Checks.{textFault}
-use Rattle.literal.specs.Decodes.{checkedDecode, checkedBuffer, kindCoded, decodeAt, bufferAt}
+use Rattle.input.specs.Checks.{textFault}
+use Rattle.literal.specs.Decodes.{checkedDecode, checkedBuffer, decodeAt, bufferAt}
 use Rattle.literal.specs.declared.KindFound.the-variants as found
 use Rattle.grammar.specs.Notation.{times}
 use Rattle.grammar.specs.Quoted.{Quoted, Raw, closing, STRING-LITERAL, RAW-STRING-LITERAL, BYTE-STRING-LITERAL, RAW-BYTE-STRING-LITERAL, C-STRING-LITERAL, RAW-C-STRING-LITERAL}
@@ -30,6 +30,7 @@ use Rattle.grammar.specs.Meaning.{Worth, Means, is-string, is-raw-string, is-by
 use Rattle.grammar.specs.Meaning as worth
 use Rattle.demands.specs.Demand1.{Readable}
 use Rattle.demands.specs.Demand2.{Gives, GivesBytes}
+use Rattle.demands.proofs.DecodeCall.{coded}
 use Rattle.demands.proofs.Found.{Found}
 use Rattle.demands.proofs.Suffixes.{suffix-is}
 use Rattle.demands.proofs.Characters.{Ends, behind, rest-is, start-is}
@@ -103,12 +104,6 @@ module _ (k : Kind) {s v x : List ℕ} where
 fine-fault : (s : List ℕ) → Readable s → textFault s ≡ 0
 unfolding textFault
 fine-fault s f = rw (le-leb (length s) 65536 (f .short), isUtf8-right s .1 (f .utf8))
-
-coded : (k : Kind) → kindCoded (kindOf k) ≡ found.Kind k
-unfolding kindCoded
-coded Text = refl
-coded Bytes = refl
-coded C = refl
 
 module _ (k : Kind) (s : List ℕ) {kind e : ℕ} {vs : Values} (f : Readable s) (g : stringRead k s ≡ accepted kind e vs) where
   counted : (buf : List ℕ) → length (stringValue k s) ≤ length buf → decodeAt (kindOf k) s (length buf) ≡ written (length (stringValue k s))

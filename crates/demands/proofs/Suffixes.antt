@@ -7,8 +7,8 @@ use mathlib.Core.Bool.{Bool, true, false, not, _&&_}
 use mathlib.Core.List.{List, [], _∷_}
 use lib.Dec.{T}
 use Rattle.parse.specs.Sets.{startsE}
-use Rattle.parse.specs.Suffix.{suffixFault}
-use Rattle.parse.proofs.Suffixes.{good-start, good-rest, good-lone, good-is}
+use Rattle.suffix.specs.Suffix.{suffixFault}
+use Rattle.suffix.proofs.Suffixes.{good-start, good-rest, good-lone, good-is}
 use Rattle.grammar.specs.Notation.{all, begins, opt, _∪_}
 use Rattle.grammar.specs.Suffixes.{LOW, E, XID-START, XID-CONTINUE, SUFFIX, SUFFIX-NO-E}
 use Rattle.grammar.proofs.Scan.{empty, suffixOk}

@@ -19,11 +19,11 @@ use Rattle.types.specs.declared.IntegerFound.the-variants as found
 use Rattle.types.specs.declared.Largest.{Largest}
 use Rattle.types.specs.declared.Largest.the-variants.{Value, NoValues}
 use Rattle.integer.specs.Integer.{baseAt, mainPart, integerRead}
-use Rattle.integer.specs.Value.{given, withheld, number, ofReading, bounded, integerValue}
 use Rattle.integer.proofs.Refused.{refused-in}
-use Rattle.literal.specs.Checks.{textFault}
+use Rattle.integer_value.specs.Value.{given, withheld, number, ofReading, bounded, integerValue}
+use Rattle.input.specs.Checks.{textFault}
+use Rattle.input.proofs.Checks.{long-fault, utf8-fault, no-fault}
 use Rattle.literal.specs.Values.{checkedValue, largestIn, valueWithin, valueAt}
-use Rattle.literal.proofs.Checks.{long-fault, utf8-fault, no-fault}
 use Rattle.demands.specs.Demand1.{Readable, ValueAnswered, ValueType, u8, u16, u32, u64, i8, i16, i32, i64, ValueAnswers}
 use Rattle.demands.proofs.Numbered.{text-refused, or-42}
 

@@ -13,8 +13,8 @@ use Rattle.utf8.specs.Utf8.{Utf8, Boundary}
 use Rattle.utf8.proofs.Text.{boundary-drop}
 use Rattle.integer.specs.Integer.{integerRead}
 use Rattle.integer.specs.Parts.{Tiled}
-use Rattle.integer.specs.Value.{number}
 use Rattle.integer.proofs.Parts.{sound}
+use Rattle.integer_value.specs.Value.{number}
 use Rattle.string.specs.String.{stringRead, stringValue}
 use Rattle.string.specs.String as strings
 use Rattle.string.specs.declared.Kind.{Kind}
@@ -30,10 +30,10 @@ use Rattle.form.proofs.Fits.{fit-bytes}
 use Rattle.grammar.specs.Values.{numberIn}
 use Rattle.grammar.specs.Meaning.{Worth, kindOf, Means}
 use Rattle.grammar.specs.Meaning as worth
-use Rattle.scaling.specs.Scaled.{floatAt}
+use Rattle.scaling.specs.Scaled.{part, floatAt}
 use Rattle.bare_form.specs.Worths.{worthOf}
 use Rattle.demands.specs.Demand1.{Readable}
-use Rattle.demands.specs.Demand2.{part, Gives, GivesInteger, GivesBytes}
+use Rattle.demands.specs.Demand2.{Gives, GivesInteger, GivesBytes}
 use Rattle.demands.proofs.DecodeCall.{decode-answers}
 use Rattle.demands.proofs.Demand2.{demand-2-rust}
 use Rattle.demands.proofs.Integers.{base-most, number-is}

@@ -32,8 +32,8 @@ use Rattle.types.specs.declared.IntegerType.the-variants.{U8, U16, U32, U64, U1
 use Rattle.types.specs.declared.FloatType.{FloatType}
 use Rattle.types.specs.declared.FloatType.the-variants.{F32, F64}
 use Rattle.integer.specs.Integer.{baseAt, mainPart, integerRead}
-use Rattle.integer.specs.Value.{Valued, given, number}
-use Rattle.integer.specs.Value as valued
+use Rattle.integer_value.specs.Value.{Valued, given, number}
+use Rattle.integer_value.specs.Value as valued
 use Rattle.string.specs.String.{kindOf, stringRead, stringValue}
 use Rattle.string.specs.Decode.{Decode, written, withheld}
 use Rattle.string.specs.declared.Kind.{Kind}
@@ -44,7 +44,8 @@ use Rattle.literal.specs.Decodes.{decodeAt, bufferAt}
 use Rattle.literal.specs.Suffixes.{integerFromSuffix, floatFromSuffix}
 use Rattle.settle.specs.Settled.{Settle, formed, measureAt, settleAt, formAt}
 use Rattle.settle.specs.Settled as settled
-use Rattle.desk.specs.Code.{readingNumbers, valueNumbers, placeNumbers, valueCode, valueAfter, decodeCode, codeOf}
+use Rattle.numbers.specs.Numbers.{readingNumbers, valueNumbers, placeNumbers}
+use Rattle.desk.specs.Code.{valueCode, valueAfter, decodeCode, codeOf}
 
 -- a text that may be read: at most 65,536 bytes, and UTF-8
 pub record Readable (s : List ℕ) : Type 0 where

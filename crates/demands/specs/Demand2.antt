@@ -7,7 +7,7 @@
 -- and `bufferAt` do; here, for every such text, these are the definitions that were transcribed from the Rust, file by file. That those
 -- definitions say what the Rust does is not proved: `tests/compare` holds the calls to the Rust itself.
 -- Assumes nothing.
-use Prim.Native.Nat.{ℕ, _+_, _-_, _≤_}
+use Prim.Native.Nat.{ℕ, _+_, _≤_}
 use mathlib.Core.Path.{_≡_}
 use mathlib.Core.Logic.{_⊎_, _↔_}
 use mathlib.Core.List.{List}
@@ -16,8 +16,8 @@ use Rattle.err.specs.Outcome.{Values, accepted, Rawness, truth, digits, ends, v
 use Rattle.buffer.specs.Buffer.{over}
 use Rattle.boolean.specs.Bool.{boolRead}
 use Rattle.integer.specs.Integer.{integerRead}
-use Rattle.integer.specs.Value.{bounded}
-use Rattle.integer.specs.Value as litrs
+use Rattle.integer_value.specs.Value.{bounded}
+use Rattle.integer_value.specs.Value as litrs
 use Rattle.float.specs.Float.{floatRead}
 use Rattle.character.specs.Single.{charRead, byteRead}
 use Rattle.string.specs.String.{stringRead}
@@ -33,6 +33,7 @@ use Rattle.grammar.specs.Decimal.{Decimal}
 use Rattle.grammar.specs.Values.{radixOf, numberIn, powered}
 use Rattle.grammar.specs.Meaning.{Worth, kindOf, Means}
 use Rattle.grammar.specs.Meaning as worth
+use Rattle.scaling.specs.Scaled.{part}
 use Rattle.demands.specs.Demand1.{Readable, ValueType}
 
 -- of one text: what reading, value and decoding answer is the Rust's. A reading holds kind, part positions, values and the start of the suffix;
@@ -76,10 +77,6 @@ pub record Demand2Rust : Type 0 where
 -- entry 0 takes every kind, each other entry its own
 abbrev pub Takes : ℕ → ℕ → Type 0
 Takes code k = (code ≡ 0) ⊎ (code ≡ k)
-
--- the bytes from one offset to another
-abbrev pub part : ℕ → ℕ → List ℕ → List ℕ
-part a e s = take (e - a) (drop a s)
 
 -- an integer's reading: base and both ends of the digits mark the number n, and the value call gives it at each type, or 45 where it does not fit
 pub record GivesInteger (s : List ℕ) (vs : Values) (n : ℕ) : Type 0 where

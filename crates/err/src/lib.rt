@@ -241,6 +241,16 @@ pub fn perr_nowhere(kind: ParseErrorKind) -> Reading
     Reading::Refused(kind, Span::Nowhere)
 }
 
+// A refusal at a span or at none. Taking the span apart is faster than copying it, since a copy loads more bytes than were stored.
+pub fn perr_at(kind: ParseErrorKind, span: Span) -> Reading
+    ensures { λ r. ⌜ outcomeOf r ≡ refused (numberOf kind) (placeOf span) ⌝ }
+{
+    match span {
+        Span::Nowhere => perr_nowhere(kind),
+        Span::Between(from, to) => perr(kind, from, to),
+    }
+}
+
 // A span counted from an offset before its text.
 pub fn offset_span(span: Span, by: usize) -> Span
     requires { ⌜ Ends (18446744073709551615 - by) (placeOf span) ⌝ }

@@ -17,7 +17,7 @@ use Rattle.scan.proofs.Cases.{clash}
 use Rattle.scan.proofs.Runs.{run-is}
 use Rattle.parse.specs.Class.{classOf}
 use Rattle.parse.specs.Sets.{digit, decDigit, startsE}
-use Rattle.parse.specs.Suffix.{suffixFault}
+use Rattle.suffix.specs.Suffix.{suffixFault}
 use Rattle.parse.proofs.Classes.{either, digit-ten-cases, dec-digit-ends}
 use Rattle.parse.proofs.Numbers.{e-behind}
 use Rattle.float.specs.Float.{badFraction, afterFraction, afterInteger, floatRead}
@@ -40,7 +40,7 @@ digit-no-sign b d =
 
 -- ---- exponent and suffix
 
-rest-stops : (ex suf : List ℕ) → Exponent ex → Stops (digit 10) suf → Stops (digit 10) (ex ++ suf)
+pub rest-stops : (ex suf : List ℕ) → Exponent ex → Stops (digit 10) suf → Stops (digit 10) (ex ++ suf)
 unfolding startsE
 rest-stops ex suf (no-exponent e) l = rw e l
 rest-stops ex suf (exponent letter sign ds e t g d m) l = rw e (e-stops letter (rw e at t) .0)

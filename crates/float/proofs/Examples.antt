@@ -6,7 +6,7 @@ use Rattle.err.specs.Outcome.{refused, accepted, none, between, ends}
 use Rattle.scan.specs.Sets.{only}
 use Rattle.parse.specs.Class.{classOf}
 use Rattle.parse.specs.Sets.{digit, suffixRest, decDigit, startsE}
-use Rattle.parse.specs.Suffix.{suffixStart, faultFrom, suffixFault}
+use Rattle.suffix.specs.Suffix.{suffixStart, faultFrom, suffixFault}
 use Rattle.float.specs.Float.{notInteger, afterNumber, signEnd, noDigit, afterFraction, badFraction, afterInteger, floatRead}
 
 pub record Examples : Type 0 where

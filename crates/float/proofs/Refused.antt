@@ -15,10 +15,10 @@ use Rattle.scan.proofs.Bytes.{byte-inside}
 use Rattle.scan.proofs.Cases.{cond-in, cond-eq}
 use Rattle.scan.proofs.Runs.{run-le}
 use Rattle.parse.specs.Sets.{digit, decDigit, startsE}
-use Rattle.parse.specs.Suffix.{suffixFault}
+use Rattle.suffix.specs.Suffix.{suffixFault}
 use Rattle.parse.proofs.Classes.{both, either}
 use Rattle.parse.proofs.Numbers.{e-inside}
-use Rattle.parse.proofs.Suffixes.{fault-small}
+use Rattle.suffix.proofs.Suffixes.{fault-small}
 use Rattle.float.specs.Float.{digitsEnd, notInteger, afterNumber, signEnd, noDigit, afterFraction, badFraction, afterInteger, floatRead}
 use Rattle.float.proofs.Inside.{digits-inside}
 use Rattle.float.proofs.Ends.{sign-behind}

@@ -17,7 +17,7 @@ use Rattle.scan.proofs.Bytes.{byte-inside}
 use Rattle.scan.proofs.Cases.{cond-in, cond-eq, clash}
 use Rattle.scan.proofs.Runs.{run-le, run-all, run-stops, run-split}
 use Rattle.parse.specs.Sets.{digit, decDigit, startsE}
-use Rattle.parse.specs.Suffix.{suffixFault}
+use Rattle.suffix.specs.Suffix.{suffixFault}
 use Rattle.parse.proofs.Classes.{digit-decimal}
 use Rattle.parse.proofs.Numbers.{e-inside, e-behind}
 use Rattle.float.specs.Float.{notInteger, afterNumber, afterFraction, badFraction, afterInteger, floatRead}

@@ -15,7 +15,7 @@ use Rattle.scan.specs.Run.{run, All, Stops}
 use Rattle.scan.specs.Sets.{only}
 use Rattle.scan.proofs.Runs.{run-is}
 use Rattle.parse.specs.Sets.{digit, startsE}
-use Rattle.parse.specs.Suffix.{suffixFault}
+use Rattle.suffix.specs.Suffix.{suffixFault}
 use Rattle.parse.proofs.Numbers.{e-behind}
 use Rattle.float.specs.Float.{digitsEnd, notInteger, afterNumber, signEnd, noDigit, afterFraction, badFraction, afterInteger}
 use Rattle.float.specs.Parts.{Sign, unsigned, plus, minus}

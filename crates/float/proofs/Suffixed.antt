@@ -10,9 +10,9 @@ use lib.ListN.{length}
 use Rattle.err.specs.Outcome.{accepted, ends}
 use Rattle.scan.specs.Run.{All}
 use Rattle.parse.specs.Sets.{digit, decDigit, startsE}
-use Rattle.parse.specs.Suffix.{suffixStart}
+use Rattle.suffix.specs.Suffix.{suffixStart}
 use Rattle.parse.proofs.Numbers.{plain-digits, plain-first, plain-some}
-use Rattle.parse.proofs.Suffixes.{good-start}
+use Rattle.suffix.proofs.Suffixes.{good-start}
 use Rattle.float.specs.Float.{floatRead}
 use Rattle.float.specs.Parts.{Sign, unsigned, minus, exponent, no-fraction, FloatParts}
 use Rattle.float.proofs.Complete.{complete}

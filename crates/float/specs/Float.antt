@@ -11,7 +11,7 @@ use Rattle.err.specs.declared.Reading.the-variants as reading
 use Rattle.scan.specs.Run.{run}
 use Rattle.scan.specs.Sets.{only}
 use Rattle.parse.specs.Sets.{digit, decDigit, startsE}
-use Rattle.parse.specs.Suffix.{suffixFault}
+use Rattle.suffix.specs.Suffix.{suffixFault}
 use Rattle.float.specs.declared.Parsed.{Parsed}
 use Rattle.float.specs.declared.Parsed.the-variants as parsed
 

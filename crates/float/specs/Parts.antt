@@ -9,7 +9,7 @@ use Rattle.err.specs.Outcome.{Values, ends}
 use Rattle.scan.specs.Run.{run, All, Stops}
 use Rattle.scan.specs.Sets.{only}
 use Rattle.parse.specs.Sets.{digit, decDigit, startsE}
-use Rattle.parse.specs.Suffix.{suffixFault}
+use Rattle.suffix.specs.Suffix.{suffixFault}
 
 -- none, or a period with digits and `_` behind it, no `_` first
 pub data Fraction (frac : List ℕ) : Type 0 where

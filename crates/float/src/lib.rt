@@ -3,9 +3,9 @@ use err::FloatLit;
 use err::ParseErrorKind;
 use err::Reading;
 use err::Span;
-use parse::Suffix;
 use scan::Byte;
 use scan::ByteSet;
+use suffix::Suffix;
 ghost use mathlib.Core.Path.{_≡_};
 ghost use Prim.Native.Nat.{_≤_, _<_};
 ghost use lib.ListN.{length};
@@ -34,7 +34,10 @@ fn after_number(text: &[u8], lit: FloatLit) -> Parsed
     ensures { λ r. ⌜ parsedOf r ≡ afterNumber (now (text .entry)) (lit .«end_integer_part») (lit .«end_fractional_part») (lit .«end_number_part») ⌝ }
 {
     let end = lit.end_number_part;
-    let checked = parse::check_suffix(&text[end..]);
+    if end == text.len() {
+        return not_integer(lit);
+    }
+    let checked = suffix::check_suffix(&text[end..]);
     let Suffix::Bad(kind) = checked else {
         return not_integer(lit);
     };
@@ -87,7 +90,7 @@ fn fraction_end(text: &[u8], i: usize) -> usize
         return i;
     }
     let from = i + 1;
-    from + parse::end_dec_digits(&text[from..])
+    from + digits::end_dec_digits(&text[from..])
 }
 
 // Where the exponent ends: behind `e`, its sign and its digits, if there is an `e`.
@@ -99,7 +102,7 @@ fn exponent_end(text: &[u8], f: usize) -> usize
         return f;
     }
     let from = sign_end(text, f);
-    from + parse::end_dec_digits(&text[from..])
+    from + digits::end_dec_digits(&text[from..])
 }
 
 // Behind the integer part: fraction, exponent and suffix.
@@ -142,7 +145,7 @@ fn parse_lit(text: &[u8]) -> Parsed
         return Parsed::Refused(ParseErrorKind::Empty, Span::Nowhere);
     };
     if parse::is_decimal(b) {
-        return after_integer(text, parse::end_dec_digits(text));
+        return after_integer(text, digits::end_dec_digits(text));
     }
     Parsed::Refused(ParseErrorKind::DoesNotStartWithDigit, Span::Between(0, 1))
 }

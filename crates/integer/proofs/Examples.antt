@@ -1,5 +1,4 @@
--- The marked texts, read by the definitions: `0x` is 6 at 2-2, `0b1e` is 41 at 1-2, `0x_1F` is of base 16 with digits from 2 to 5,
--- and its value is 31.
+-- The marked texts, read by the definitions: `0x` is 6 at 2-2, `0b1e` is 41 at 1-2, `0x_1F` is of base 16 with digits from 2 to 5.
 -- Assumes nothing.
 use mathlib.Core.Path.{_≡_, refl}
 use mathlib.Core.List.{[], _∷_}
@@ -7,20 +6,14 @@ use Rattle.err.specs.Outcome.{refused, accepted, between, digits}
 use Rattle.scan.specs.Sets.{only}
 use Rattle.parse.specs.Class.{classOf}
 use Rattle.parse.specs.Sets.{digit, suffixRest, decDigit, startsE}
-use Rattle.parse.specs.Suffix.{suffixStart, faultFrom, suffixFault}
+use Rattle.suffix.specs.Suffix.{suffixStart, faultFrom, suffixFault}
 use Rattle.integer.specs.Integer.{baseAt, prefixLen, mainLen, mainPart, afterSuffix, afterDigits, integerOf, integerAt, integerRead}
-use Rattle.integer.specs.Value.{number, integerValue, given}
 
 pub record Marked : Type 0 where
   pub no-digits : integerRead (48 ∷ 120 ∷ []) ≡ refused 6 (between 2 2)
   pub starting-with-e : integerRead (48 ∷ 98 ∷ 49 ∷ 101 ∷ []) ≡ refused 41 (between 1 2)
   pub hexadecimal : integerRead (48 ∷ 120 ∷ 95 ∷ 49 ∷ 70 ∷ []) ≡ accepted 2 5 (digits 16 2 5)
-  pub value : integerValue 255 (48 ∷ 120 ∷ 95 ∷ 49 ∷ 70 ∷ []) ≡ given 31
 
 pub marked : Marked
-unfolding only classOf digit suffixRest decDigit startsE suffixStart faultFrom suffixFault baseAt prefixLen mainLen mainPart afterSuffix afterDigits integerOf integerAt integerRead number integerValue
-marked = record { no-digits = refl; starting-with-e = refl; hexadecimal = refl; value = refl }
-
-pub digits-number : number 16 (95 ∷ 49 ∷ 70 ∷ []) ≡ 31
-unfolding classOf number
-digits-number = refl
+unfolding only classOf digit suffixRest decDigit startsE suffixStart faultFrom suffixFault baseAt prefixLen mainLen mainPart afterSuffix afterDigits integerOf integerAt integerRead
+marked = record { no-digits = refl; starting-with-e = refl; hexadecimal = refl }

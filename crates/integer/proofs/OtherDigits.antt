@@ -14,10 +14,11 @@ use Rattle.err.specs.Outcome.{accepted, digits}
 use Rattle.scan.specs.Run.{All, Stops}
 use Rattle.scan.proofs.Cases.{cond-in, clash}
 use Rattle.parse.specs.Sets.{digit, decDigit, startsE}
-use Rattle.parse.specs.Suffix.{suffixStart}
-use Rattle.parse.proofs.Classes.{dec-digit-ends, digit-underscore, start-digit}
+use Rattle.suffix.specs.Suffix.{suffixStart}
+use Rattle.parse.proofs.Classes.{dec-digit-ends, digit-underscore}
+use Rattle.suffix.proofs.Starts.{start-digit}
 use Rattle.parse.proofs.Numbers.{plain-digits, plain-first, plain-some}
-use Rattle.parse.proofs.Suffixes.{good-start}
+use Rattle.suffix.proofs.Suffixes.{good-start}
 use Rattle.integer.specs.Integer.{baseAt, integerRead}
 use Rattle.integer.specs.Parts.{dec, IntegerParts, Unprefixed}
 use Rattle.integer.proofs.Bases.{base-other}
@@ -39,7 +40,7 @@ suffix-start {base} {b} {pre} {main} {suf} h =
 -- ---- other digits
 
 -- a second byte other than b, o and x announces no base
-base-ten : (s : List ℕ) → (getD s 1 0 ≡ 98 → ⊥) → (getD s 1 0 ≡ 111 → ⊥) → (getD s 1 0 ≡ 120 → ⊥) → baseAt s ≡ 10
+pub base-ten : (s : List ℕ) → (getD s 1 0 ≡ 98 → ⊥) → (getD s 1 0 ≡ 111 → ⊥) → (getD s 1 0 ≡ 120 → ⊥) → baseAt s ≡ 10
 unfolding baseAt
 base-ten s b o x = rw (ne-eqb _ _ b, ne-eqb _ _ o, ne-eqb _ _ x) (cond-in (λ (n : ℕ). n ≡ 10) (eqb (getD s 0 0) 48) (λ e. refl) (λ e. refl))
 

@@ -3,7 +3,7 @@
 use mathlib.Core.Path.{_≡_, refl, ap, sym, _∙_}
 use mathlib.Core.Bool.{true}
 use mathlib.Core.List.{List, [], _∷_, _++_, append-assoc}
-use Prim.Native.Nat.{ℕ, _+_, _<_}
+use Prim.Native.Nat.{ℕ, _+_, _≤_, _<_}
 use native.Mathlib.Omega.{arith}
 use borrow.Author.Tests.{ne-eqb}
 use lib.Dec.{eqb}
@@ -95,3 +95,12 @@ module _ {base : ℕ} {pre main suf : List ℕ} (h : IntegerParts base pre main 
   pub complete : integerRead (pre ++ (main ++ suf)) ≡ accepted 2 (length pre + length main) (digits base (length pre) (length pre + length main))
   unfolding integerAt
   complete = sym (read-digit _ first-digit) ∙ rw (main-len, h .plain, prefix-length (h .prefix)) of-parts
+
+-- ---- the ends of the digits
+
+pub read-ends : (s : List ℕ) {k n base a e : ℕ} → integerRead s ≡ accepted k n (digits base a e) → (a ≤ e) × (e ≤ length s)
+read-ends s {k} {n} {base} {a} {e} h =
+    let t = sound s k n (digits base a e) h in
+    let p : a ≡ length (t .pre) = cc (t .values) in
+    let q : e ≡ n = cc (t .values) in
+    (omega (arith, t .end), rw (t .text) (omega (arith, t .end, length-append (t .pre) (t .main ++ t .suf), length-append (t .main) (t .suf))))

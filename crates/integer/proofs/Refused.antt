@@ -14,10 +14,10 @@ use Rattle.scan.proofs.Bytes.{byte-inside}
 use Rattle.scan.proofs.Cases.{by-lt, cond-in, cond-eq}
 use Rattle.scan.proofs.Runs.{run-le}
 use Rattle.parse.specs.Sets.{digit, decDigit, startsE}
-use Rattle.parse.specs.Suffix.{suffixFault}
+use Rattle.suffix.specs.Suffix.{suffixFault}
 use Rattle.parse.proofs.Classes.{dec-digit-ends}
 use Rattle.parse.proofs.Numbers.{e-inside}
-use Rattle.parse.proofs.Suffixes.{fault-small}
+use Rattle.suffix.proofs.Suffixes.{fault-small}
 use Rattle.integer.specs.Integer.{baseAt, prefixLen, mainLen, afterSuffix, afterDigits, integerOf, integerAt, integerRead}
 use Rattle.integer.proofs.Bases.{base-short}
 

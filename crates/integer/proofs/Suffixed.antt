@@ -13,7 +13,7 @@ use Rattle.scan.specs.Run.{run}
 use Rattle.scan.specs.Sets.{only}
 use Rattle.scan.proofs.Cases.{cond-in, cond-eq}
 use Rattle.parse.specs.Sets.{decDigit, startsE}
-use Rattle.parse.specs.Suffix.{suffixFault}
+use Rattle.suffix.specs.Suffix.{suffixFault}
 use Rattle.integer.specs.Integer.{afterSuffix, afterDigits}
 
 -- a refusal is no acceptance

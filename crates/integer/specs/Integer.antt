@@ -15,7 +15,7 @@ use Rattle.scan.specs.Run.{run}
 use Rattle.scan.specs.Same.{same}
 use Rattle.scan.specs.Sets.{only}
 use Rattle.parse.specs.Sets.{digit, decDigit, startsE}
-use Rattle.parse.specs.Suffix.{suffixFault}
+use Rattle.suffix.specs.Suffix.{suffixFault}
 use Rattle.integer.specs.declared.Parsed.{Parsed}
 use Rattle.integer.specs.declared.Parsed.the-variants as parsed
 

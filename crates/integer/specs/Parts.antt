@@ -10,7 +10,7 @@ use Rattle.err.specs.Outcome.{Values, digits}
 use Rattle.scan.specs.Run.{run, All, Stops}
 use Rattle.scan.specs.Sets.{only}
 use Rattle.parse.specs.Sets.{digit, decDigit, startsE}
-use Rattle.parse.specs.Suffix.{suffixFault}
+use Rattle.suffix.specs.Suffix.{suffixFault}
 use Rattle.integer.specs.Integer.{baseAt}
 
 -- each base with its prefix: none, `0b`, `0o`, `0x`

@@ -1,21 +1,19 @@
-// Integer literals: their base and digits, their suffix, and their value at a type.
+// Integer literals: their base and digits, and their suffix.
 use err::IntegerBase;
 use err::IntegerLit;
 use err::ParseErrorKind;
 use err::Reading;
 use err::Span;
-use parse::Suffix;
 use scan::Byte;
 use scan::ByteSet;
+use suffix::Suffix;
 ghost use mathlib.Core.Path.{_≡_};
 ghost use Prim.Native.Nat.{_≤_};
 ghost use lib.ListN.{length};
-ghost use lib.Seq.{slice};
 ghost use Rattle.err.specs.Reading.{outcomeOf, baseOf, prefixOf};
 ghost use Rattle.scan.specs.Run.{run};
 ghost use Rattle.parse.specs.Sets.{digit};
 ghost use Rattle.integer.specs.Integer.{baseAt, hasPrefix, Scanned, parsedOf, afterSuffix, integerAt, integerRead};
-ghost use Rattle.integer.specs.Value.{number, within, bounded, valuedOf};
 
 // An integer literal, or why a text is none.
 pub enum Parsed {
@@ -60,9 +58,9 @@ fn main_len(s: &[u8], base: IntegerBase) -> usize
     ensures { λ r. ⌜ r ≡ run (digit (baseOf base)) (now (s .entry)) ⌝ }
 {
     let IntegerBase::Decimal = base else {
-        return parse::end_digits(s, base.value());
+        return digits::end_digits(s, base.value());
     };
-    parse::end_dec_digits(s)
+    digits::end_dec_digits(s)
 }
 
 // The base, and where the digits start and end.
@@ -86,7 +84,10 @@ fn check_end(text: &[u8], lit: IntegerLit) -> Parsed
     ensures { λ r. ⌜ parsedOf r ≡ afterSuffix (now (text .entry)) (lit .«end_main_part») (parsedOf (Parsed.Lit lit)) ⌝ }
 {
     let end = lit.end_main_part;
-    let checked = parse::check_suffix(&text[end..]);
+    if end == text.len() {
+        return Parsed::Lit(lit);
+    }
+    let checked = suffix::check_suffix(&text[end..]);
     let Suffix::Bad(kind) = checked else {
         return Parsed::Lit(lit);
     };
@@ -142,63 +143,4 @@ pub fn parse(text: &[u8]) -> Reading
         Parsed::Lit(lit) => Reading::Integer(lit),
         Parsed::Refused(kind, span) => Reading::Refused(kind, span),
     }
-}
-
-// The number that digits write, or that it is above a largest one.
-pub enum Within {
-    Number(u64),
-    Over,
-}
-
-// The digits' number, in one pass: it is left at the digit that passes the largest.
-pub fn number_within(digits: &[u8], base: IntegerBase, largest: u64) -> Within
-    ensures { λ r. ⌜ r ≡ within largest (number (baseOf base) (now (digits .entry))) ⌝ }
-{
-    let by = wide(base.value());
-    let most = largest / by;
-    let mut n: u64 = 0;
-    let mut i = 0;
-    while i < digits.len() {
-        let b = digits[i];
-        i += 1;
-        if b == b'_' {
-            continue;
-        }
-        if most < n {
-            return Within::Over;
-        }
-        let d = wide(parse::class_of(b));
-        if largest - n * by < d {
-            return Within::Over;
-        }
-        n = n * by + d;
-    }
-    Within::Number(n)
-}
-
-fn wide(x: u8) -> u64
-    ensures { λ r. ⌜ r ≡ x ⌝ }
-{
-    x as u64
-}
-
-// The value of an integer literal, or why there is none.
-pub enum IntegerValue {
-    Given(u64),
-    Refused(ParseErrorKind, Span),
-}
-
-// The value of a literal whose ends lie in the text, where it is at most the type's largest.
-pub fn value_of(text: &[u8], lit: IntegerLit, largest: u64) -> IntegerValue
-    requires { ⌜ (lit .«start_main_part» ≤ lit .«end_main_part») × (lit .«end_main_part» ≤ length (now text)) ⌝ }
-    ensures { λ r. ⌜ valuedOf r ≡ bounded largest (number (baseOf (lit .base)) (slice (lit .«start_main_part») (lit .«end_main_part») (now (text .entry)))) ⌝ }
-{
-    let start = lit.start_main_part;
-    let end = lit.end_main_part;
-    let base = lit.base;
-    let found = number_within(&text[start..end], base, largest);
-    let Within::Number(n) = found else {
-        return IntegerValue::Refused(ParseErrorKind::NoValue, Span::Nowhere);
-    };
-    IntegerValue::Given(n)
 }

@@ -17,8 +17,9 @@ use Rattle.utf8.specs.Valid.{charsWithin, isUtf8}
 use Rattle.parse.specs.Class.{classOf}
 use Rattle.parse.specs.Sets.{decDigit}
 use Rattle.boolean.specs.Bool.{trueText, falseText, isBool, boolRead}
-use Rattle.literal.specs.Checks.{textFault}
-use Rattle.literal.specs.Readings.{anyBy, anyRead, entryRead, boolAt, entryFor, chosenEntry, readAt}
+use Rattle.entries.specs.Entries.{entryFor, chosenEntry}
+use Rattle.input.specs.Checks.{textFault}
+use Rattle.literal.specs.Readings.{anyBy, anyRead, entryRead, boolAt, readAt}
 
 -- the two texts by the two entries
 abbrev Read : ℕ → List ℕ → Type 0

@@ -18,21 +18,22 @@ use Rattle.err.specs.declared.Reading.the-variants as reading
 use Rattle.err.proofs.Reading.{the-type}
 use Rattle.scan.proofs.Cases.{cond-eq}
 use Rattle.integer.specs.Integer.{baseAt, mainPart, integerRead}
-use Rattle.integer.specs.Value.{number, bounded, integerValue}
-use Rattle.integer.specs.Value as value
-use Rattle.integer.proofs.Values.{read-ends, read-value}
+use Rattle.integer.proofs.Parts.{read-ends}
+use Rattle.integer_value.specs.Value.{number, bounded, integerValue}
+use Rattle.integer_value.specs.Value as value
+use Rattle.integer_value.proofs.Values.{read-value}
 use Rattle.string.specs.String.{kindOf, stringRead, stringValue}
 use Rattle.string.specs.Decode.{stringDecoded, bufferOf, bufferAfter}
 use Rattle.string.specs.Decode as decode
 use Rattle.string.specs.declared.Kind.{Kind}
 use Rattle.string.specs.declared.Kind.the-variants.{Text, Bytes, C}
-use Rattle.literal.specs.Checks.{textFault}
+use Rattle.input.specs.Checks.{textFault}
+use Rattle.input.proofs.Checks.{no-fault}
 use Rattle.literal.specs.Readings.{entryRead, readAt}
 use Rattle.literal.specs.Values.{checkedValue}
 use Rattle.literal.specs.Decodes.{checkedDecode, checkedBuffer, kindCoded, decodeAt, bufferAt}
 use Rattle.literal.specs.declared.KindFound.{KindFound}
 use Rattle.literal.specs.declared.KindFound.the-variants as found
-use Rattle.literal.proofs.Checks.{no-fault}
 use Rattle.literal.proofs.Answers.{read-passed, read-kind}
 
 -- a reading by an entry from 1 to 8 is refused, variant 0, or the variant of the entry's kind: it is none of the others

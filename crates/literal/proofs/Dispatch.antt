@@ -6,7 +6,7 @@ use mathlib.Core.List.{List, [], _∷_}
 use Prim.Native.Nat.{ℕ, zero, suc, _≤_}
 use native.Mathlib.Omega.{arith}
 use lib.Dec.{eqb}
-use lib.ListN.{length, getD}
+use lib.ListN.{getD}
 use Rattle.err.specs.Outcome.{Outcome, refused, none}
 use Rattle.parse.specs.Sets.{decDigit}
 use Rattle.boolean.specs.Bool.{boolRead}
@@ -14,19 +14,9 @@ use Rattle.integer.specs.Integer.{integerRead}
 use Rattle.float.specs.Float.{floatRead}
 use Rattle.character.specs.Single.{readBy}
 use Rattle.string.specs.String.{stringRead}
-use Rattle.literal.specs.Readings.{startsFloat, numberRead, byteOrStringRead, anyBy, anyRead, entryRead, numberEntry, byteEntry, entryBy, entryFor, chosenEntry, quoteIn, kindIn}
+use Rattle.entries.specs.Entries.{startsFloat, numberEntry, byteEntry, entryBy, entryFor, chosenEntry}
+use Rattle.literal.specs.Readings.{numberRead, byteOrStringRead, anyBy, anyRead, entryRead, quoteIn, kindIn}
 use Rattle.literal.proofs.Entries.{by-code}
-
--- the entry by the first byte
-pub entry-none : (s : List ℕ) → length s ≡ 0 → 2 ≡ entryFor s
-unfolding entryFor
-entry-none [] h = refl
-entry-none (b ∷ s) h = absurd (omega arith)
-
-pub entry-some : (s : List ℕ) → (length s ≡ 0 → ⊥) → entryFor s ≡ entryBy (getD s 0 0) s
-unfolding entryFor
-entry-some [] h = absurd (h refl)
-entry-some (b ∷ s) h = refl
 
 -- what the code calls for an entry from 1 to 9
 unfoldable pub byEntry : ℕ → List ℕ → Outcome

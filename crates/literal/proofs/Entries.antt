@@ -14,7 +14,8 @@ use Rattle.integer.proofs.Suffixed.{never}
 use Rattle.string.specs.String.{kindOf, stringRead}
 use Rattle.string.specs.declared.Kind.{Kind}
 use Rattle.string.specs.declared.Kind.the-variants.{Text, Bytes, C}
-use Rattle.literal.specs.Readings.{startsFloat, numberRead, byteOrStringRead, anyBy, anyRead, entryRead}
+use Rattle.entries.specs.Entries.{startsFloat}
+use Rattle.literal.specs.Readings.{numberRead, byteOrStringRead, anyBy, anyRead, entryRead}
 use Rattle.literal.proofs.KindLaws.{bool-kind, integer-kind, float-kind, char-kind, byte-kind, string-kind}
 use Rattle.literal.proofs.Openings.{bool-any, integer-any, float-any, char-any, byte-any, string-any}
 

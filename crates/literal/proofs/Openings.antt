@@ -27,7 +27,8 @@ use Rattle.string.specs.declared.Kind.{Kind}
 use Rattle.string.specs.declared.Kind.the-variants.{Text, Bytes, C}
 use Rattle.string.specs.declared.Opening.{Opening}
 use Rattle.string.specs.declared.Opening.the-variants as opening
-use Rattle.literal.specs.Readings.{startsFloat, numberRead, byteOrStringRead, anyBy, anyRead}
+use Rattle.entries.specs.Entries.{startsFloat}
+use Rattle.literal.specs.Readings.{numberRead, byteOrStringRead, anyBy, anyRead}
 use Rattle.literal.proofs.Starts.{integer-start, float-start}
 
 by-opening {ℓ} : (P : Opening → Type ℓ) (b : ℕ) → (b ≡ 34 → P opening.Quoted) → (b ≡ 114 → P opening.Raw) → P opening.Neither → P (openingBy b)

@@ -6,10 +6,10 @@ use Prim.Native.Nat.{ℕ, _-_, _≤_, _<_}
 use native.Mathlib.Omega.{arith}
 use lib.ListN.{length, getD}
 use Rattle.err.specs.Outcome.{Values, accepted, Rawness, notRaw, raw, value, decoded}
+use Rattle.single_quote.specs.declared.Quote.{Quote}
+use Rattle.single_quote.specs.declared.Quote.the-variants.{Char, Byte}
 use Rattle.character.specs.Single.{charRead, byteRead}
 use Rattle.character.specs.Parts.{Tiled}
-use Rattle.character.specs.declared.Quote.{Quote}
-use Rattle.character.specs.declared.Quote.the-variants.{Char, Byte}
 use Rattle.character.proofs.Exact.{char-sound, byte-sound, tiled-ascii}
 use Rattle.string.specs.String.{stringRead, stringValue}
 use Rattle.string.specs.Parts as string

@@ -16,7 +16,8 @@ use Rattle.float.proofs.Refused as float
 use Rattle.character.proofs.Exact.{char-refused, byte-refused}
 use Rattle.string.specs.declared.Kind.the-variants.{Text, Bytes, C}
 use Rattle.string.proofs.Refused as string
-use Rattle.literal.specs.Readings.{startsFloat, numberRead, byteOrStringRead, anyBy, anyRead, entryRead}
+use Rattle.entries.specs.Entries.{startsFloat}
+use Rattle.literal.specs.Readings.{numberRead, byteOrStringRead, anyBy, anyRead, entryRead}
 use Rattle.literal.proofs.Entries.{by-code}
 
 module _ (s : List ℕ) (n : ℕ) (p : Place) where

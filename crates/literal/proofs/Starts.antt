@@ -14,12 +14,12 @@ use Rattle.scan.proofs.Cases.{clash}
 use Rattle.scan.proofs.Runs.{run-is}
 use Rattle.parse.specs.Class.{classOf}
 use Rattle.parse.specs.Sets.{digit, suffixRest, startsE}
-use Rattle.parse.specs.Suffix.{suffixStart}
+use Rattle.suffix.specs.Suffix.{suffixStart}
 use Rattle.integer.specs.Parts.{Prefixed, dec, bin, oct, hex, IntegerParts}
 use Rattle.integer.proofs.OtherDigits.{suffix-start}
 use Rattle.float.specs.Parts.{Fraction, no-fraction, fraction, Exponent, no-exponent, exponent, FloatParts}
 use Rattle.float.proofs.Complete.{whole-longest}
-use Rattle.literal.specs.Readings.{startsFloat}
+use Rattle.entries.specs.Entries.{startsFloat}
 
 -- ---- numbers: by what stands behind the digits
 

@@ -8,7 +8,7 @@ use Rattle.err.specs.Outcome.{none}
 use Rattle.string.specs.Decode.{Decode, withheld, stringDecoded, bufferAfter}
 use Rattle.string.specs.declared.Kind.{Kind}
 use Rattle.string.specs.declared.Kind.the-variants.{Text, Bytes, C}
-use Rattle.literal.specs.Checks.{textFault}
+use Rattle.input.specs.Checks.{textFault}
 use Rattle.literal.specs.declared.KindFound.{KindFound}
 use Rattle.literal.specs.declared.KindFound.the-variants as found
 

@@ -1,4 +1,3 @@
-pub mod Checks
 pub mod Values
 pub mod Suffixes
 pub mod Readings

@@ -6,23 +6,20 @@ use mathlib.Core.List.{List, [], _∷_}
 use lib.Dec.{eqb, leb}
 use lib.ListN.{getD}
 use Rattle.err.specs.Outcome.{Outcome, refused, none}
-use Rattle.scan.specs.Run.{run}
-use Rattle.parse.specs.Sets.{digit, decDigit, startsE}
+use Rattle.parse.specs.Sets.{decDigit}
 use Rattle.boolean.specs.Bool.{isBool, boolRead}
 use Rattle.integer.specs.Integer.{integerRead}
 use Rattle.float.specs.Float.{floatRead}
+use Rattle.single_quote.specs.declared.Quote.{Quote}
+use Rattle.single_quote.specs.declared.Quote.the-variants.{Char, Byte}
 use Rattle.character.specs.Single.{charRead, byteRead}
-use Rattle.character.specs.declared.Quote.{Quote}
-use Rattle.character.specs.declared.Quote.the-variants.{Char, Byte}
 use Rattle.string.specs.String.{stringRead}
 use Rattle.string.specs.declared.Kind.{Kind}
 use Rattle.string.specs.declared.Kind.the-variants.{Text, Bytes, C}
-use Rattle.literal.specs.Checks.{textFault}
+use Rattle.entries.specs.Entries.{startsFloat}
+use Rattle.input.specs.Checks.{textFault}
 
--- 01, Floats: "Entry 0 picks float when the first byte after the leading digits and `_` is `.`, `e` or `E`."
-unfoldable pub startsFloat : List ℕ → Bool
-startsFloat s = eqb (getD s (run (digit 10) s) 0) 46 || startsE s (run (digit 10) s)
-
+-- a number: float or integer, by what stands behind its leading digits
 unfoldable pub numberRead : List ℕ → Outcome
 numberRead s = cond (startsFloat s) (floatRead s) (integerRead s)
 
@@ -69,42 +66,11 @@ readAt code s =
     (cond (eqb (textFault s) 0) (entryRead code s) (refused (textFault s) none))
     (refused 42 none)
 
--- ---- the entry that reads a text: for contracts between functions, no sentence of a document; law `chosen-read` joins them to the above
+-- ---- for contracts between functions, no sentence of a document; law `chosen-read` joins them and the entry chosen (entries) to the above
 
 -- a bool by entry 0 or 1: nothing is wrong with such a text, so that it need not be checked (law `bool-read`)
 unfoldable pub boolAt : ℕ → List ℕ → Bool
 boolAt code s = leb code 1 && isBool s
-
--- of a number: float or integer, by the rule above
-unfoldable pub numberEntry : List ℕ → ℕ
-numberEntry s = cond (startsFloat s) 3 2
-
--- of a text that starts with `b`: byte, byte string, or 9, which is no entry
-unfoldable pub byteEntry : List ℕ → ℕ
-byteEntry s =
-    cond (eqb (getD s 1 0) 39) 6
-    (cond (eqb (getD s 1 0) 114 || eqb (getD s 1 0) 34) 7
-    9)
-
--- by the first byte, as `anyBy`
-unfoldable pub entryBy : ℕ → List ℕ → ℕ
-entryBy b s =
-    cond (decDigit b) (numberEntry s)
-    (cond (eqb b 102 || eqb b 116) 1
-    (cond (eqb b 39) 4
-    (cond (eqb b 34 || eqb b 114) 5
-    (cond (eqb b 98) (byteEntry s)
-    (cond (eqb b 99) 8
-    9)))))
-
--- the entry from 1 to 8 that answers a text as entry 0 does; 9 where nothing is known, which is 3. No bytes are 1, as entry 2 has it
-unfoldable pub entryFor : List ℕ → ℕ
-entryFor [] = 2
-entryFor (b ∷ s) = entryBy b (b ∷ s)
-
--- the entry that reads a text by an entry code: that of the code, but for 0
-unfoldable pub chosenEntry : ℕ → List ℕ → ℕ
-chosenEntry code s = cond (eqb code 0) (entryFor s) code
 
 -- char or byte, by entry 4 or 6
 unfoldable pub quoteIn : ℕ → Quote

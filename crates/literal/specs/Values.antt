@@ -5,13 +5,13 @@ use mathlib.Core.Bool.{cond}
 use mathlib.Core.List.{List}
 use lib.Dec.{eqb}
 use Rattle.err.specs.Outcome.{none}
-use Rattle.integer.specs.Value.{Valued, withheld, integerValue}
+use Rattle.integer_value.specs.Value.{Valued, withheld, integerValue}
 use Rattle.types.specs.Types.{integerCoded, largestOf}
 use Rattle.types.specs.declared.IntegerFound.{IntegerFound}
 use Rattle.types.specs.declared.IntegerFound.the-variants as found
 use Rattle.types.specs.declared.Largest.{Largest}
 use Rattle.types.specs.declared.Largest.the-variants as largest
-use Rattle.literal.specs.Checks.{textFault}
+use Rattle.input.specs.Checks.{textFault}
 
 -- 43 and 44, which have no span, then what entry 2's reading refuses, then 45
 unfoldable pub checkedValue : ℕ → List ℕ → Valued

@@ -1,10 +1,11 @@
 // The calls that a user makes, of any code and any bytes. A refusal is the first of 42, 43, 44, litrs's own, 45 or 48.
 // The last clause of each public function's contract says that the text at exit is what it was at entry.
-use character::Quote;
 use err::ParseErrorKind;
 use err::Reading;
 use err::Span;
-use integer::IntegerValue;
+use input::Checked;
+use integer_value::IntegerValue;
+use single_quote::Quote;
 use string::Decoded;
 use string::Kind;
 use types::FloatFound;
@@ -16,33 +17,13 @@ ghost use mathlib.Core.Path.{_≡_};
 ghost use mathlib.Core.Bool.{false};
 ghost use Prim.Native.Nat.{_≤_};
 ghost use lib.ListN.{length};
-ghost use Rattle.integer.specs.Value.{valuedOf};
+ghost use Rattle.integer_value.specs.Value.{valuedOf};
 ghost use Rattle.err.specs.Reading.{outcomeOf};
 ghost use Rattle.string.specs.Decode.{decodedOf};
-ghost use Rattle.literal.specs.Checks.{faultOf, textFault};
-ghost use Rattle.literal.specs.Readings.{startsFloat, numberEntry, byteEntry, entryFor, chosenEntry, quoteIn, kindIn, entryRead, boolAt, readAt};
+ghost use Rattle.literal.specs.Readings.{quoteIn, kindIn, entryRead, boolAt, readAt};
 ghost use Rattle.literal.specs.Decodes.{kindCoded, decodeAt, bufferAt};
 ghost use Rattle.literal.specs.Values.{valueAt};
 ghost use Rattle.literal.specs.Suffixes.{integerFromSuffix, floatFromSuffix};
-
-// What is wrong with a text before it is read.
-pub enum Checked {
-    Good,
-    Bad(ParseErrorKind),
-}
-
-// At most 65,536 bytes, and UTF-8.
-fn check_text(text: &[u8]) -> Checked
-    ensures { λ r. ⌜ faultOf r ≡ textFault (now (text .entry)) ⌝ }
-{
-    if 65536 < text.len() {
-        return Checked::Bad(ParseErrorKind::TextTooLong);
-    }
-    if validation::is_utf8(text) {
-        return Checked::Good;
-    }
-    Checked::Bad(ParseErrorKind::NotUtf8)
-}
 
 // The code of the integer type that a name stands for, or 0.
 pub fn integer_from_suffix(name: &[u8]) -> u8
@@ -68,67 +49,6 @@ pub fn float_from_suffix(name: &[u8]) -> u8
     ty.code()
 }
 
-// Whether a number with leading digits and `_` is a float: the first byte after them is `.`, `e` or `E`.
-fn starts_float(text: &[u8]) -> bool
-    ensures { λ r. ⌜ r ≡ startsFloat (now (text .entry)) ⌝ }
-{
-    let end = parse::end_dec_digits(text);
-    if scan::byte_at(text, end) == b'.' {
-        return true;
-    }
-    parse::has_e(text, end)
-}
-
-fn number_entry(text: &[u8]) -> u64
-    ensures { λ r. ⌜ r ≡ numberEntry (now (text .entry)) ⌝ }
-{
-    if starts_float(text) { 3 } else { 2 }
-}
-
-// Of a text that starts with `b`: a byte, a byte string, or nothing that is known.
-fn b_entry(text: &[u8]) -> u64
-    ensures { λ r. ⌜ r ≡ byteEntry (now (text .entry)) ⌝ }
-{
-    match scan::byte_at(text, 1) {
-        b'\'' => 6,
-        b'r' => 7,
-        b'"' => 7,
-        _ => 9,
-    }
-}
-
-// The entry that reads a text, by its first byte; 9 where none does. No bytes are refused as by entry 2.
-fn entry_for(text: &[u8]) -> u64
-    ensures { λ r. ⌜ r ≡ entryFor (now (text .entry)) ⌝ }
-{
-    if text.len() == 0 {
-        return 2;
-    }
-    let b = text[0];
-    if parse::is_decimal(b) {
-        return number_entry(text);
-    }
-    match b {
-        b'f' => 1,
-        b't' => 1,
-        b'\'' => 4,
-        b'"' => 5,
-        b'r' => 5,
-        b'b' => b_entry(text),
-        b'c' => 8,
-        _ => 9,
-    }
-}
-
-fn chosen(code: u64, text: &[u8]) -> u64
-    ensures { λ r. ⌜ r ≡ chosenEntry code (now (text .entry)) ⌝ }
-{
-    if code == 0 {
-        return entry_for(text);
-    }
-    code
-}
-
 fn quote_of(entry: u64) -> Quote
     ensures { λ r. ⌜ r ≡ quoteIn entry ⌝ }
 {
@@ -150,7 +70,7 @@ fn entry(code: u64, text: &[u8]) -> Reading
     requires { ⌜ (code ≤ 8) × (length (now text) ≤ 65536) × (boolAt code (now text) ≡ false) ⌝ }
     ensures { λ r. ⌜ outcomeOf r ≡ entryRead code (now (text .entry)) ⌝ }
 {
-    let e = chosen(code, text);
+    let e = entries::chosen(code, text);
     match e {
         1 | 9 => err::perr_nowhere(ParseErrorKind::InvalidLiteral),
         2 => integer::parse(text),
@@ -161,7 +81,7 @@ fn entry(code: u64, text: &[u8]) -> Reading
 }
 
 // Whether a text is a bool and read as one. Its few bytes tell, so that it pays for no check.
-fn is_bool_at(code: u64, text: &[u8]) -> bool
+pub fn is_bool_at(code: u64, text: &[u8]) -> bool
     ensures { λ r. ⌜ r ≡ boolAt code (now (text .entry)) ⌝ }
 {
     if 1 < code {
@@ -181,7 +101,7 @@ pub fn read(code: u64, text: &[u8]) -> Reading
     if is_bool_at(code, text) {
         return boolean::parse(text);
     }
-    let checked = check_text(text);
+    let checked = input::check_text(text);
     let Checked::Bad(kind) = checked else {
         return entry(code, text);
     };
@@ -203,7 +123,7 @@ pub fn value(code: u64, text: &[u8]) -> IntegerValue
     };
     let reading = read(2, text);
     match reading {
-        Reading::Integer(lit) => integer::value_of(text, lit, largest),
+        Reading::Integer(lit) => integer_value::value_of(text, lit, largest),
         Reading::Refused(kind, span) => IntegerValue::Refused(kind, span),
         // cannot arise: entry 2 reads integers
         _ => IntegerValue::Refused(ParseErrorKind::InvalidLiteral, Span::Nowhere),

@@ -1,17 +1,16 @@
 -- What the classes say of bytes: each set told by class is one told by comparisons. A test of the 128 bytes below, and one class above.
 -- Assumes nothing.
 use mathlib.Core.Path.{_≡_, refl, sym, _∙_}
-use mathlib.Core.Bool.{Bool, true, false, not, _&&_, _||_, and-false, or-true, or-false}
+use mathlib.Core.Bool.{Bool, true, false, _&&_, _||_, and-false, or-true}
 use mathlib.Core.Logic.{_⊎_, inl, inr, ⊎-map}
 use Prim.Native.Nat.{ℕ, _+_, _-_, _≤_, _<_}
 use native.Mathlib.Omega.{arith}
 use lib.Dec.{T, leb, ltb, eqb, eqb→eq}
-use borrow.Author.Tests.{ltb-true, ltb-false, leb-true, eqb-true, lt-ltb, le-ltb, le-leb, lt-leb, ne-eqb, not-true}
+use borrow.Author.Tests.{ltb-true, leb-true, eqb-true, lt-ltb, le-ltb, le-leb, lt-leb, ne-eqb}
 use Rattle.scan.proofs.Cases.{by-lt, cond-lt, clash}
 use Rattle.scan.proofs.Tables.{everyBelow, below, alike, agreed}
 use Rattle.parse.specs.Class.{classOf, within}
 use Rattle.parse.specs.Sets.{inClass, inSet, digit, suffixRest, blank, decDigit, hexDigitOf}
-use Rattle.parse.specs.Suffix.{suffixStart}
 use Rattle.parse.specs.declared.ClassSet.{ClassSet}
 use Rattle.parse.specs.declared.ClassSet.the-variants.{Digits, SuffixRest, Blanks}
 use Rattle.parse.specs.declared.HexDigit.{HexDigit}
@@ -47,7 +46,7 @@ class-above b h =
     rw (within-above 48 57 b (omega arith), within-above 97 102 b (omega arith), within-above 65 70 b (omega arith), ne-eqb b 95 (omega arith), within-above 97 122 b (omega arith), within-above 65 90 b (omega arith), ne-eqb b 32 (omega arith), ne-eqb b 9 (omega arith), ne-eqb b 10 (omega arith), le-ltb b 128 h)
 
 -- two tests that agree below 128 and from 128 on are one
-everywhere : (f g : ℕ → Bool) → T (everyBelow (λ b. alike (f b) (g b)) 128) → ((b : ℕ) → 128 ≤ b → f b ≡ g b) → (b : ℕ) → f b ≡ g b
+pub everywhere : (f g : ℕ → Bool) → T (everyBelow (λ b. alike (f b) (g b)) 128) → ((b : ℕ) → 128 ≤ b → f b ≡ g b) → (b : ℕ) → f b ≡ g b
 everywhere f g t h b = by-lt b 128 (agreed f g 128 t b) (h b)
 
 pub class-underscore : classOf 95 ≡ 16
@@ -134,30 +133,6 @@ digit-ten b = digit-is 10 b
 pub digit-ten-cases : (b : ℕ) → digit 10 b ≡ true → (b ≡ 95) ⊎ (decDigit b ≡ true)
 digit-ten-cases b t = ⊎-map (eqb-true b 95) (λ e. e) (either (eqb b 95) (decDigit b) (sym (digit-ten b) ∙ t))
 
--- ---- suffixes
-
-pub start-above : (b : ℕ) → 128 ≤ b → suffixStart b ≡ true
-unfolding suffixStart suffixRest
-start-above b h = rw (class-above b h)
-
-pub start-is : (b : ℕ) → suffixStart b ≡ (eqb b 95 || (within 97 122 b || (within 65 90 b || leb 128 b)))
-unfolding suffixStart suffixRest classOf
-start-is =
-    everywhere suffixStart (λ b. eqb b 95 || (within 97 122 b || (within 65 90 b || leb 128 b))) tt
-    (λ b h. rw (start-above b h, le-leb 128 b h, or-true, or-true, or-true))
-
-pub rest-is : (b : ℕ) → suffixRest b ≡ (suffixStart b || decDigit b)
-unfolding suffixStart suffixRest decDigit classOf
-rest-is = everywhere suffixRest (λ b. suffixStart b || decDigit b) tt (λ b h. rw (class-above b h))
-
-pub start-not-decimal : (b : ℕ) → suffixStart b ≡ true → decDigit b ≡ false
-unfolding suffixStart decDigit
-start-not-decimal b t = not-true (decDigit b) (both (not (decDigit b)) (suffixRest b) t .0)
-
--- a run of decimal digits and `_` goes into a suffix only by `_`
-pub start-digit : (b : ℕ) → suffixStart b ≡ true → digit 10 b ≡ eqb b 95
-start-digit b t = rw (digit-ten, start-not-decimal b t, or-false)
-
 -- ---- blanks
 
 pub blank-is : (b : ℕ) → blank b ≡ (eqb b 32 || (eqb b 9 || eqb b 10))
@@ -178,11 +153,6 @@ unfolding classOf
 hex-is =
     everywhere (λ b. ltb (classOf b) 16) (λ b. within 48 57 b || (within 97 102 b || within 65 70 b)) tt
     (λ b h. rw (class-above b h, within-above 48 57 b (omega arith), within-above 97 102 b (omega arith), within-above 65 70 b (omega arith)))
-
--- what is neither a hex digit nor `_` is no digit of a base up to 16
-pub digit-not : (base b : ℕ) → base ≤ 16 → (b ≡ 95 → ⊥) → within 48 57 b ≡ false → within 97 102 b ≡ false → within 65 70 b ≡ false → digit base b ≡ false
-digit-not base b h n x y z =
-    rw (digit-is, ne-eqb b 95 n, le-ltb (classOf b) base (omega (arith, ltb-false (classOf b) 16 (rw (hex-is, x, y, z)))))
 
 pub hex-class : (b v : ℕ) → hexDigitOf b ≡ Value v → (v ≡ classOf b) × (v < 16)
 unfolding hexDigitOf

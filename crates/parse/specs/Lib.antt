@@ -1,3 +1,2 @@
 pub mod Class
 pub mod Sets
-pub mod Suffix

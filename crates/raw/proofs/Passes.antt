@@ -19,7 +19,8 @@ use Rattle.escape.specs.Allows.{unicode, allowNul}
 use Rattle.escape.specs.declared.Allowed.{Allowed}
 use Rattle.escape.specs.declared.Unescaped.the-variants.{Byte}
 use Rattle.body.specs.Code.{Stopped}
-use Rattle.body.specs.Step.{piece, plainByte, rawStepOf}
+use Rattle.plain_run.specs.Plain.{plainByte}
+use Rattle.body.specs.Step.{piece, rawStepOf}
 use Rattle.body.proofs.Steps as steps
 use Rattle.body.proofs.Bodies.{Passed}
 use Rattle.body.proofs.Runs.{raw-plain-step, plain-stops}

@@ -8,8 +8,8 @@ use native.Mathlib.Omega.{arith}
 use lib.Dec.{leb}
 use borrow.Author.Tests.{leb-true, leb-false}
 use Rattle.scan.proofs.Cases.{cond-in}
-use Rattle.integer.specs.declared.Within.the-variants.{Number, Over}
-use Rattle.integer.specs.Value.{within}
+use Rattle.integer_value.specs.declared.Within.the-variants.{Number, Over}
+use Rattle.integer_value.specs.Value.{within}
 use Rattle.scaling.specs.Scaled.{capped}
 
 -- it is the size, or both are too large

@@ -15,8 +15,8 @@ use Rattle.scan.proofs.Cases.{cond-in}
 use Rattle.parse.specs.Class.{classOf}
 use Rattle.parse.specs.Sets.{digit, decDigit}
 use Rattle.parse.proofs.Classes.{digit-ten-cases, dec-digit-ends, class-decimal}
-use Rattle.integer.specs.Value.{number}
-use Rattle.integer.specs.Value as code
+use Rattle.integer_value.specs.Value.{number}
+use Rattle.integer_value.specs.Value as code
 use Rattle.float.specs.Float.{floatRead}
 use Rattle.float.specs.Parts.{Fraction, no-fraction, fraction, Exponent, no-exponent, exponent, Sign, unsigned, plus, minus}
 use Rattle.float.proofs.Sound.{sound}

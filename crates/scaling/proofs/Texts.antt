@@ -10,7 +10,7 @@ use lib.Seq.{take-nil, length-take-le}
 use Rattle.err.specs.Outcome.{accepted, ends}
 use Rattle.scan.specs.Run.{run}
 use Rattle.scan.proofs.Cases.{cond-lt, by-lt}
-use Rattle.integer.specs.Value.{number}
+use Rattle.integer_value.specs.Value.{number}
 use Rattle.float.specs.Float.{floatRead}
 use Rattle.grammar.specs.Notation.{begins, byte}
 use Rattle.grammar.specs.Values.{numberIn}

@@ -1,7 +1,7 @@
 // The reduced number of a float: where its digits stand in the text, and its power of ten, found in a few passes.
 use err::FloatLit;
 use err::IntegerBase;
-use integer::Within;
+use integer_value::Within;
 ghost use mathlib.Core.Path.{_≡_};
 ghost use mathlib.Core.Bool.{cond};
 ghost use Prim.Native.Nat.{_≤_};
@@ -10,7 +10,7 @@ ghost use Rattle.scan.specs.Run.{run};
 ghost use Rattle.grammar.specs.Notation.{begins, byte};
 ghost use Rattle.grammar.specs.Numbers.{SIGN};
 ghost use Rattle.parse.specs.Sets.{decDigit};
-ghost use Rattle.integer.specs.Value.{number};
+ghost use Rattle.integer_value.specs.Value.{number};
 ghost use Rattle.scaling.specs.Digits.{significant, insignificant, digitsOf, lastEnd};
 ghost use Rattle.scaling.specs.Scaled.{numberOf, FloatOf, capped, Scales, scalingBy, exponentStart};
 
@@ -108,7 +108,7 @@ pub fn digits_len(s: &[u8]) -> usize
 fn size_of(digits: &[u8]) -> u64
     ensures { λ r. ⌜ r ≡ capped (number 10 (now (digits .entry))) ⌝ }
 {
-    let found = integer::number_within(digits, IntegerBase::Decimal, 2000000);
+    let found = integer_value::number_within(digits, IntegerBase::Decimal, 2000000);
     let Within::Number(n) = found else {
         return 2000001;
     };

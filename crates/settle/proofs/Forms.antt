@@ -1,43 +1,34 @@
 -- Measure, form and buffer of a reading, by the form without its suffix.
 -- Assumes nothing.
 use mathlib.Core.Path.{_≡_, refl, sym, ap, _∙_}
-use mathlib.Core.Bool.{Bool, true, false, cond, _||_, and-eq-true-iff}
+use mathlib.Core.Bool.{Bool, true, false, cond}
 use mathlib.Core.List.{List, [], _++_}
-use Prim.Native.Nat.{ℕ, _+_, _-_, _*_, _≤_, _<_}
+use Prim.Native.Nat.{ℕ, _+_, _-_, _≤_, _<_}
 use native.Mathlib.Omega.{arith}
-use borrow.Author.Tests.{le-leb, lt-leb, leb-true}
+use borrow.Author.Tests.{le-leb, lt-leb}
 use lib.Dec.{eqb, leb}
 use lib.ListN.{length, drop, length-append, length-drop}
-use Rattle.err.specs.Outcome.{Place, none, Outcome, refused, accepted, Rawness, notRaw, raw, decoded}
-use Rattle.err.specs.Reading.{baseOf, hashesOf, outcomeOf}
+use Rattle.err.specs.Outcome.{Place, none, Outcome, refused, accepted}
+use Rattle.err.specs.Reading.{baseOf, outcomeOf}
 use Rattle.err.specs.declared.IntegerLit.{IntegerLit}
-use Rattle.err.specs.declared.StringLit.{StringLit}
 use Rattle.err.specs.declared.Reading.{Reading}
 use Rattle.err.specs.declared.Reading.the-variants as reading
-use Rattle.scan.proofs.Cases.{clash}
 use Rattle.buffer.specs.Buffer.{over}
 use Rattle.grammar.specs.Meaning.{Worth}
 use Rattle.grammar.specs.Meaning as worth
 use Rattle.form.specs.Form.{bareForm, formOf, faultOf, integerForm}
-use Rattle.integer.specs.Value.{within, number}
-use Rattle.integer.specs.declared.Within.the-variants.{Number, Over}
-use Rattle.quoting.specs.Styled.{styledForms}
-use Rattle.quoting.proofs.Styles.{forms-short}
+use Rattle.integer_value.specs.Value.{within, number}
+use Rattle.integer_value.specs.declared.Within.the-variants.{Number, Over}
 use Rattle.scaling.specs.Scaled.{part}
-use Rattle.string.specs.String.{stringRead, stringValue}
-use Rattle.string.specs.declared.Kind.{Kind}
-use Rattle.string.specs.declared.Kind.the-variants.{Text, Bytes, C}
-use Rattle.string.proofs.Literals.{value-length}
-use Rattle.string_form.specs.Strings.{worthIn, openingOf, wideIn}
-use Rattle.string_form.specs.Shown.{allShown}
-use Rattle.string_form.proofs.Bare.{read-length, opening-short}
-use Rattle.string_form.proofs.Short.{string-short}
+use Rattle.numbers.specs.Numbers.{kindIn, suffixIn}
 use Rattle.literal.specs.Readings.{readAt}
-use Rattle.bare_form.proofs.Readings.{short, utf8, start, stringIn, string-read}
+use Rattle.bare_form.proofs.Readings.{short, start}
 use Rattle.bare_form.specs.Worths.{worthOf}
-use Rattle.bare_form.proofs.Lengths.{no-len, plain-bare, is-within, is-over}
-use Rattle.bare_form.specs.Bare.{len, bad, bareLen, bareBy, bareFormBy, kindIn, suffixIn, Roomy}
-use Rattle.settle.specs.Settled.{Settle, formed, withheld, measured, measureOf, measureAt, settleAt, formBy, formAt, bufferAt, Fits, boundFits, textFits, surelyFits}
+use Rattle.bare_form.proofs.Lengths.{no-len, is-within, is-over}
+use Rattle.bare_form.specs.Bare.{len, bad, bareLen, bareBy, bareFormBy, Roomy}
+use Rattle.form_bound.specs.Bound.{surelyFits}
+use Rattle.form_bound.proofs.Sure.{surely}
+use Rattle.settle.specs.Settled.{Settle, formed, withheld, measured, measureOf, measureAt, settleAt, formBy, formAt, bufferAt, Fits}
 
 -- a form is no refusal
 pub no-form {ℓ} : {A : Type ℓ} {k n m : ℕ} {p : Place} → withheld m p ≡ formed k n → A
@@ -164,78 +155,14 @@ module _ (s buf : List ℕ) (o : Outcome) (is : o ≡ readAt 0 s) where
   unfolding settleAt bufferAt formAt
   settle-written {k} {n} e h = rw (measure-at e, le-leb n (length buf) h, ← is) (refl, refl)
 
--- ---- strings, whose forms have at most four bytes for each of the value's, quotes and a letter
+-- ---- strings that surely fit
 
-fits-sum : (n m have : ℕ) → boundFits n m have ≡ true → (4 * n + 3 + m ≤ 65536) × (4 * n + 3 + m ≤ have)
-unfolding boundFits
-fits-sum n m have e =
-    let t = and-eq-true-iff (leb (4 * n + 3 + m) 65536) (leb (4 * n + 3 + m) have) .0 e in
-    (leb-true _ _ (t .0), leb-true _ _ (t .1))
-
-module _ (s : List ℕ) (have : ℕ) where
-  string-form : (k : Kind) (lit : StringLit) → let o = stringIn k lit in
-      (bareFormBy s o ≡ bareForm (worthIn k (stringValue k s)) []) × (bareBy s o ≡ len (length (bareFormBy s o)))
-  string-form Text lit = (refl, sym (plain-bare (worth.string _) _ refl))
-  string-form Bytes lit = (refl, sym (plain-bare (worth.byte-string _) _ refl))
-  string-form C lit = (refl, sym (plain-bare (worth.c-string _) _ refl))
-
-  module _ (k : Kind) (lit : StringLit) (is : stringIn k lit ≡ readAt 0 s) where
-    -- the form and the suffix
-    string-size : length (bareFormBy s (stringIn k lit)) ≡ length (openingOf k) + length (styledForms (wideIn k) 34 (stringValue k s)) + 1
-    string-size = ap length (string-form k lit .0) ∙ read-length k s lit (utf8 s is) (string-read s k lit is)
-
-    string-ready : length (bareFormBy s (stringIn k lit)) + (length s - lit .«start_suffix») ≤ 65536
-        → length (bareFormBy s (stringIn k lit)) + (length s - lit .«start_suffix») ≤ have → Ready s (stringIn k lit) have
-    string-ready a b = let o = stringIn k lit in formed-fits s o (measure-formed s o (string-form k lit .1) a) b
-
-    bound-ready : boundFits (lit .«value_len») (length s - lit .«start_suffix») have ≡ true → Ready s (stringIn k lit) have
-    bound-ready e =
-        let m = fits-sum (lit .«value_len») (length s - lit .«start_suffix») have e in
-        let short : length (bareFormBy s (stringIn k lit)) ≤ 4 * lit .«value_len» + 3 =
-        omega (
-          arith,
-          string-size,
-          opening-short k,
-          forms-short (wideIn k) 34 (stringValue k s),
-          value-length k s (sym (string-read s k lit is)),
-        ) in
-        string-ready (omega (arith, m .0)) (omega (arith, m .1))
-
-    -- by the bound, or by another test
-    by-bound : {t : Bool} → (t ≡ true → Ready s (stringIn k lit) have)
-        → (boundFits (lit .«value_len») (length s - lit .«start_suffix») have || t) ≡ true → Ready s (stringIn k lit) have
-    by-bound {t} = go (boundFits (lit .«value_len») (length s - lit .«start_suffix») have) bound-ready
-      where
-        go : (b : Bool) → (b ≡ true → Ready s (stringIn k lit) have) → (t ≡ true → Ready s (stringIn k lit) have) → (b || t) ≡ true
-            → Ready s (stringIn k lit) have
-        go true f g e = f refl
-        go false f g e = g e
-
-  -- a string of kind 5 by its text
-  text-ready : (lit : StringLit) → stringIn Text lit ≡ readAt 0 s → textFits (hashesOf (lit .hashes)) s have ≡ true → Ready s (stringIn Text lit) have
-  text-ready lit is = go (hashesOf (lit .hashes)) (sym (string-read s Text lit is))
-    where
-      go : (r : Rawness) → stringRead Text s ≡ accepted 5 (lit .«start_suffix») (decoded r (lit .«value_len»)) → textFits r s have ≡ true
-          → Ready s (stringIn Text lit) have
-      go notRaw g e =
-          let t = and-eq-true-iff (leb (length s) have) (allShown s) .0 e in
-          let room = leb-true (length s) have (t .0) in
-          let most = string-short s g (t .1) in
-          let small = short s is in
-          string-ready Text lit is (omega (arith, string-size Text lit is)) (omega (arith, string-size Text lit is))
-      go (raw h) g e = clash e refl
-
-  -- THE LAW: a string that surely fits has a form that fits, so that neither 47 nor 48 comes
-  pub surely-ready : (found : Reading) → let o = outcomeOf found in o ≡ readAt 0 s → surelyFits s o have ≡ true → Ready s o have
-  surely-ready (reading.String lit) is e = by-bound Text lit is (text-ready lit is) e
-  surely-ready (reading.ByteString lit) is e = by-bound Bytes lit is (λ f. clash f refl) e
-  surely-ready (reading.CString lit) is e = by-bound C lit is (λ f. clash f refl) e
-  surely-ready (reading.Refused k p) is e = clash e refl
-  surely-ready (reading.Bool lit) is e = clash e refl
-  surely-ready (reading.Integer lit) is e = clash e refl
-  surely-ready (reading.Float lit) is e = clash e refl
-  surely-ready (reading.Char lit) is e = clash e refl
-  surely-ready (reading.Byte lit) is e = clash e refl
+-- neither 47 nor 48 comes
+pub surely-ready : (s : List ℕ) (have : ℕ) (found : Reading) → let o = outcomeOf found in o ≡ readAt 0 s → surelyFits s o have ≡ true → Ready s o have
+surely-ready s have found is e =
+    let o = outcomeOf found in
+    let f = surely s have found is e in
+    formed-fits s o (measure-formed s o (f .form) (f .short)) (f .room)
 
 -- ---- integers, which may have none
 

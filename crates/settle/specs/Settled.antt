@@ -1,18 +1,17 @@
 -- What measuring and settling answer, and what the lent buffer holds then (01, The settled form; Order: "then 45 or 46, 47, 48").
 -- Assumes nothing.
-use mathlib.Core.Bool.{Bool, false, cond, _&&_, _||_}
+use mathlib.Core.Bool.{cond}
 use mathlib.Core.List.{List, []}
 use mathlib.Core.Path.{_≡_}
-use Prim.Native.Nat.{ℕ, _+_, _-_, _*_, _≤_}
+use Prim.Native.Nat.{ℕ, _≤_}
 use lib.Dec.{eqb, leb}
 use lib.ListN.{length, drop}
-use Rattle.err.specs.Outcome.{Place, none, truth, digits, ends, value, decoded, Outcome, refused, accepted, Rawness, notRaw, raw}
+use Rattle.err.specs.Outcome.{Place, none, Outcome, refused, accepted}
 use Rattle.err.specs.Numbers.{numberOf}
 use Rattle.err.specs.Reading.{placeOf}
 use Rattle.buffer.specs.Buffer.{over}
 use Rattle.grammar.specs.Meaning.{Worth}
 use Rattle.form.specs.Form.{formOf, faultOf}
-use Rattle.string_form.specs.Shown.{allShown}
 use Rattle.literal.specs.Readings.{readAt}
 use Rattle.bare_form.specs.Worths.{worthOf}
 use Rattle.bare_form.specs.Bare.{len, bareBy, bareFormBy}
@@ -76,23 +75,3 @@ bufferAt s buf = bufferBy (settleAt s (length buf)) (formAt s) buf
 pub record Fits (s : List ℕ) (o : Outcome) (have : ℕ) : Type 0 where
   pub form : bareBy s o ≡ len (length (bareFormBy s o))
   pub room : length (formBy s o) ≤ have
-
--- ---- forms that fit for sure: for contracts between functions, no sentence of a document; law `surely-ready` says that they are given
-
--- a value of n bytes, each at most four in a form, with quotes and letter, and a suffix of m bytes fit into a form and into `have` bytes
-unfoldable pub boundFits : ℕ → ℕ → ℕ → Bool
-boundFits n m have = leb (4 * n + 3 + m) 65536 && leb (4 * n + 3 + m) have
-
--- of kind 5: a string that is not raw, in a text of at most `have` bytes that has no control character, has a form no longer than the text
-abbrev pub textFits : Rawness → List ℕ → ℕ → Bool
-textFits notRaw s have = leb (length s) have && allShown s
-textFits (raw h) s have = false
-
--- a reading of a text s whose form fits for sure: only strings are judged so, by the bound, and those of kind 5 by their text too
-abbrev pub surelyFits : List ℕ → Outcome → ℕ → Bool
-surelyFits s (accepted k e (decoded r n)) have = boundFits n (length s - e) have || (eqb k 5 && textFits r s have)
-surelyFits s (accepted k e (truth b)) have = false
-surelyFits s (accepted k e (digits b i j)) have = false
-surelyFits s (accepted k e (ends i f j)) have = false
-surelyFits s (accepted k e (value v)) have = false
-surelyFits s (refused n p) have = false

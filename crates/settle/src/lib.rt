@@ -1,13 +1,11 @@
 // Settled forms: the measure of a text's form, and the form written into a lent buffer. Any bytes may be handed in.
 // The last clause of each public contract says that the text at exit is what it was at entry.
 use bare_form::Bare;
-use err::Hashes;
 use err::IntegerLit;
 use err::ParseErrorKind;
 use err::Reading;
 use err::Span;
-use err::StringLit;
-use integer::Within;
+use integer_value::Within;
 ghost use mathlib.Core.Path.{_≡_};
 ghost use Prim.Native.Nat.{_≤_};
 ghost use lib.ListN.{length};
@@ -17,8 +15,8 @@ ghost use Rattle.buffer.specs.Buffer.{Wrote};
 ghost use Rattle.grammar.specs.Meaning as worth;
 ghost use Rattle.form.specs.Form.{formOf};
 ghost use Rattle.literal.specs.Readings.{readAt};
-ghost use Rattle.bare_form.specs.Bare.{kindIn, suffixIn};
-ghost use Rattle.settle.specs.Settled.{settledOf, measureOf, measureAt, settleAt, bufferAt, formBy, Fits, boundFits, surelyFits};
+ghost use Rattle.numbers.specs.Numbers.{kindIn};
+ghost use Rattle.settle.specs.Settled.{settledOf, measureOf, measureAt, settleAt, bufferAt, formBy, Fits};
 
 // A form's kind and length, or why there is none.
 pub enum Settled {
@@ -35,40 +33,6 @@ fn put_number(out: &mut [u8], n: u64, suffix: &[u8]) -> usize
     at + buffer::put_bytes(&mut out[at..], suffix)
 }
 
-// The kind of an accepted reading; 0 of a refused one.
-fn kind_of(found: Reading) -> u8
-    ensures { λ r. ⌜ r ≡ kindIn (outcomeOf found) ⌝ }
-{
-    match found {
-        Reading::Refused(_, _) => 0,
-        Reading::Bool(_) => 1,
-        Reading::Integer(_) => 2,
-        Reading::Float(_) => 3,
-        Reading::Char(_) => 4,
-        Reading::String(_) => 5,
-        Reading::Byte(_) => 6,
-        Reading::ByteString(_) => 7,
-        Reading::CString(_) => 8,
-    }
-}
-
-// Where the suffix of an accepted reading starts; 0 of a refused one.
-fn suffix_start(found: Reading) -> usize
-    ensures { λ r. ⌜ r ≡ suffixIn (outcomeOf found) ⌝ }
-{
-    match found {
-        Reading::Refused(_, _) => 0,
-        Reading::Bool(lit) => lit.end,
-        Reading::Integer(lit) => lit.end_main_part,
-        Reading::Float(lit) => lit.end_number_part,
-        Reading::Char(lit) => lit.start_suffix,
-        Reading::String(lit) => lit.start_suffix,
-        Reading::Byte(lit) => lit.start_suffix,
-        Reading::ByteString(lit) => lit.start_suffix,
-        Reading::CString(lit) => lit.start_suffix,
-    }
-}
-
 // The measure of a reading's form: 45 or 46, then 47.
 fn measure_of(text: &[u8], found: Reading) -> Settled
     requires { ⌜ outcomeOf found ≡ readAt 0 (now text) ⌝ }
@@ -78,11 +42,11 @@ fn measure_of(text: &[u8], found: Reading) -> Settled
     match bare {
         Bare::Refused(kind, span) => Settled::Refused(kind, span),
         Bare::Len(n) => {
-            let rest = text.len() - suffix_start(found);
+            let rest = text.len() - numbers::suffix_start(found);
             if 65536 - rest < n {
                 return Settled::Refused(ParseErrorKind::FormTooLong, Span::Nowhere);
             }
-            Settled::Formed(kind_of(found), n + rest)
+            Settled::Formed(numbers::kind_of(found), n + rest)
         }
     }
 }
@@ -92,7 +56,7 @@ fn put_reading(out: &mut [u8], text: &[u8], found: Reading) -> usize
     requires { ⌜ (outcomeOf found ≡ readAt 0 (now text)) × Fits (now text) (outcomeOf found) (length (now out)) × (kindIn (outcomeOf found) ≡ 2 → ⊥) ⌝ }
     ensures { λ r. ⌜ Wrote (formBy (now (text .entry)) (outcomeOf found)) r (now (out .entry)) (now (out .exit)) ⌝ }
 {
-    let start = suffix_start(found);
+    let start = numbers::suffix_start(found);
     let at = bare_form::put_bare(out, text, found);
     at + buffer::put_bytes(&mut out[at..], &text[start..])
 }
@@ -104,54 +68,6 @@ pub fn measure(text: &[u8]) -> Settled
 {
     let found = literal::read(0, text);
     measure_of(text, found)
-}
-
-// Whether a value of so many bytes, each at most four in a form, and a suffix behind it fit for sure.
-fn bound_fits(value_len: usize, rest: usize, have: usize) -> bool
-    ensures { λ r. ⌜ r ≡ boundFits «value_len» rest have ⌝ }
-{
-    if 65536 < value_len {
-        return false;
-    }
-    if 65536 < rest {
-        return false;
-    }
-    let n = 4 * value_len + 3 + rest;
-    if 65536 < n {
-        return false;
-    }
-    n <= have
-}
-
-// The same for a string (kind 5): in a text without control characters no form of one that is not raw is longer than the text.
-fn string_fits(text: &[u8], lit: StringLit, have: usize) -> bool
-    requires { ⌜ outcomeOf (reading.String lit) ≡ readAt 0 (now text) ⌝ }
-    ensures { λ r. ⌜ r ≡ surelyFits (now (text .entry)) (outcomeOf (reading.String lit)) have ⌝ }
-{
-    if bound_fits(lit.value_len, text.len() - lit.start_suffix, have) {
-        return true;
-    }
-    let hashes = lit.hashes;
-    let Hashes::NotRaw = hashes else {
-        return false;
-    };
-    if have < text.len() {
-        return false;
-    }
-    string_form::has_no_control(text)
-}
-
-// Whether a string's form fits for sure: then it need not be measured before it is written.
-fn surely_fits(text: &[u8], found: Reading, have: usize) -> bool
-    requires { ⌜ outcomeOf found ≡ readAt 0 (now text) ⌝ }
-    ensures { λ r. ⌜ r ≡ surelyFits (now (text .entry)) (outcomeOf found) have ⌝ }
-{
-    match found {
-        Reading::String(lit) => string_fits(text, lit, have),
-        Reading::ByteString(lit) => bound_fits(lit.value_len, text.len() - lit.start_suffix, have),
-        Reading::CString(lit) => bound_fits(lit.value_len, text.len() - lit.start_suffix, have),
-        _ => false,
-    }
 }
 
 // The form of an integer, whose number is worked out once: 45, 47 and 48 come before anything is written.
@@ -182,7 +98,7 @@ fn settle_other(text: &[u8], out: &mut [u8], found: Reading) -> Settled
     ensures { λ r. ⌜ settledOf r ≡ settleAt (now (text .entry)) (length (now (out .entry))) ⌝ }
     ensures { λ r. ⌜ now (out .exit) ≡ bufferAt (now (text .entry)) (now (out .entry)) ⌝ }
 {
-    if !surely_fits(text, found, out.len()) {
+    if !form_bound::surely_fits(text, found, out.len()) {
         let measure = measure_of(text, found);
         let Settled::Formed(_, n) = measure else {
             return measure;
@@ -192,7 +108,7 @@ fn settle_other(text: &[u8], out: &mut [u8], found: Reading) -> Settled
         }
     }
     let n = put_reading(out, text, found);
-    Settled::Formed(kind_of(found), n)
+    Settled::Formed(numbers::kind_of(found), n)
 }
 
 // A text's settled form, written to the front of out. A refusal leaves every byte of out as it came.

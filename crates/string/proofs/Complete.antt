@@ -10,7 +10,7 @@ use Rattle.err.specs.Outcome.{Values, accepted, Rawness, notRaw, raw, decoded}
 use Rattle.scan.specs.Run.{run, All}
 use Rattle.scan.specs.Sets.{only}
 use Rattle.scan.proofs.Runs.{run-is}
-use Rattle.parse.specs.Suffix.{suffixFault}
+use Rattle.suffix.specs.Suffix.{suffixFault}
 use Rattle.utf8.specs.Cut.{Aligned}
 use Rattle.utf8.proofs.Aligned.{aligned-rest}
 use Rattle.escape.specs.declared.Allowed.{Allowed}

@@ -11,7 +11,7 @@ use Rattle.scan.specs.Run.{run}
 use Rattle.scan.specs.Sets.{only}
 use Rattle.scan.proofs.Cases.{cond-eq, cond-lt, by-lt}
 use Rattle.scan.proofs.Runs.{run-le}
-use Rattle.parse.specs.Suffix.{suffixFault}
+use Rattle.suffix.specs.Suffix.{suffixFault}
 use Rattle.escape.specs.declared.Allowed.{Allowed}
 use Rattle.body.specs.Step.{End, close, refuse}
 use Rattle.body.specs.Body.{Body, body, rawBody}

@@ -5,7 +5,7 @@ use mathlib.Core.Path.{_≡_}
 use mathlib.Core.List.{List, [], _∷_, _++_}
 use lib.ListN.{length}
 use Rattle.err.specs.Outcome.{Values, notRaw, raw, decoded}
-use Rattle.parse.specs.Suffix.{suffixFault}
+use Rattle.suffix.specs.Suffix.{suffixFault}
 use Rattle.body.specs.Pieces.{Content, RawContent}
 use Rattle.string.specs.String.{allowedIn}
 use Rattle.string.specs.declared.Kind.{Kind}

@@ -1,4 +1,3 @@
-pub mod Ranges
-pub mod HighBytes
-pub mod Clean
-pub mod Faults
+pub mod Pairs
+pub mod Lead
+pub mod Windows

@@ -1,3 +1,3 @@
 pub mod Pairs
-pub mod HighBytes
-pub mod Faults
+pub mod Lead
+pub mod Windows

@@ -1,84 +1,15 @@
 // Whether a text is UTF-8: a short one is checked character by character, a long one byte by byte in blocks.
 ghost use mathlib.Core.Path.{_≡_};
-ghost use mathlib.Core.Bool.{cond};
-ghost use Prim.Native.Nat.{_+_, _-_, _≤_, _<_};
+ghost use Prim.Native.Nat.{_+_, _≤_, _<_};
 ghost use lib.Dec.{ltb};
-ghost use lib.ListN.{length, getD, take, drop};
-ghost use Rattle.scan.specs.Run.{run};
+ghost use lib.ListN.{length, getD, drop};
 ghost use Rattle.utf8.specs.Decode.{decode, lenOf};
 ghost use Rattle.utf8.specs.Valid.{isUtf8};
 ghost use Rattle.utf8.specs.Cut.{tail};
 ghost use Rattle.validation.specs.Pairs.{PairAt};
-ghost use Rattle.validation.specs.HighBytes.{ascii, asciiLead, largerOf, highestFrom};
-ghost use Rattle.validation.specs.Faults.{faultOf, worstFrom, worstBehind, cleanBehind};
-ghost use Rattle.validation.specs.Faults as faults;
-
-// The highest byte. With no exit on the way the compiler makes vectors of it.
-fn highest(s: &[u8]) -> u8
-    ensures { λ r. ⌜ r ≡ highestFrom 0 (now (s .entry)) ⌝ }
-{
-    let mut m: u8 = 0;
-    let mut i = 0;
-    while i < s.len() {
-        m = larger(m, s[i]);
-        i += 1;
-    }
-    m
-}
-
-fn larger(a: u8, b: u8) -> u8
-    ensures { λ r. ⌜ r ≡ largerOf a b ⌝ }
-{
-    if a < b { b } else { a }
-}
-
-// Where the bytes below 128 end that start at an offset, byte by byte.
-fn ascii_end(text: &[u8], from: usize) -> usize
-    ensures { λ r. ⌜ r ≡ from + run ascii (drop from (now (text .entry))) ⌝ }
-{
-    let mut i = from;
-    while i < text.len() {
-        if 127 < text[i] {
-            return i;
-        }
-        i += 1;
-    }
-    i
-}
-
-// The same by blocks while there are 64 bytes, then the rest at once. Where one of them has a higher byte, its place is found byte by byte.
-fn ascii_blocks(text: &[u8], from: usize) -> usize
-    requires { ⌜ from ≤ length (now text) ⌝ }
-    ensures { λ r. ⌜ r ≡ from + run ascii (drop from (now (text .entry))) ⌝ }
-{
-    let mut i = from;
-    while 64 <= text.len() - i {
-        let e = i + 64;
-        if 127 < highest(&text[i..e]) {
-            return ascii_end(text, i);
-        }
-        i = e;
-    }
-    if highest(&text[i..]) < 128 {
-        return text.len();
-    }
-    ascii_end(text, i)
-}
-
-// How many bytes at the front are below 128: by larger blocks first.
-fn ascii_front(text: &[u8]) -> usize
-    ensures { λ r. ⌜ r ≡ run ascii (now (text .entry)) ⌝ }
-{
-    let mut i = 0;
-    while 256 <= text.len() - i {
-        let e = i + 256;
-        if 127 < highest(&text[i..e]) {
-            return ascii_blocks(text, i);
-        }
-        i = e;
-    }
-    ascii_blocks(text, i)
-}
+ghost use Rattle.block_validation.specs.HighBytes.{highestFrom};
+ghost use Rattle.validation.specs.Lead.{asciiLead};
+ghost use Rattle.validation.specs.Windows.{highestIn};
 
 // Whether a byte 10xxxxxx stands at an offset; behind the end there is none.
 fn has_tail(text: &[u8], at: usize) -> bool
@@ -166,121 +97,6 @@ fn valid_len(text: &[u8], at: usize) -> usize
     four_len(text, at, first, second)
 }
 
-// A test as a byte: 255 where it holds.
-fn mask(t: bool) -> u8
-    ensures { λ r. ⌜ r ≡ faults.mask t ⌝ }
-{
-    if t { 255 } else { 0 }
-}
-
-// How much a byte is above another, or 0.
-fn over(x: u8, n: u8) -> u8
-    ensures { λ r. ⌜ r ≡ x - n ⌝ }
-{
-    if x < n { 0 } else { x - n }
-}
-
-// The first byte of three bytes behind which a tail is out of range: E0 for one below A0, ED for another.
-fn three_against(x: u8) -> u8
-    ensures { λ r. ⌜ r ≡ cond (ltb x 0xA0) 0xE0 0xED ⌝ }
-{
-    if x < 0xA0 { 0xE0 } else { 0xED }
-}
-
-// The same of four bytes: F0 for one below 90, F4 for another.
-fn four_against(x: u8) -> u8
-    ensures { λ r. ⌜ r ≡ cond (ltb x 0x90) 0xF0 0xF4 ⌝ }
-{
-    if x < 0x90 { 0xF0 } else { 0xF4 }
-}
-
-// 255 where a byte breaks a rule behind the three before it, else 0. Every test is made, so that the compiler makes vectors of `worst_fault`;
-// a tail is wanted where one of the three is that high.
-fn fault(c: u8, b: u8, a: u8, x: u8) -> u8
-    ensures { λ r. ⌜ r ≡ faultOf c b a x ⌝ }
-{
-    let wanted = larger(over(a, 0x40), larger(over(b, 0x60), over(c, 0x70)));
-    let odd = mask((127 < wanted) != utf8::is_tail(x));
-    let never = larger(mask(x / 2 == 0x60), mask(0xF4 < x));
-    let outside = larger(mask(a == three_against(x)), mask(a == four_against(x)));
-    larger(odd, larger(never, outside))
-}
-
-// 255 where a byte behind the first three breaks a rule, else 0.
-fn worst_fault(s: &[u8]) -> u8
-    ensures { λ r. ⌜ r ≡ worstBehind (now (s .entry)) ⌝ }
-{
-    let mut m: u8 = 0;
-    let mut i = 3;
-    while i < s.len() {
-        m = larger(m, fault(s[i - 3], s[i - 2], s[i - 1], s[i]));
-        i += 1;
-    }
-    m
-}
-
-// The same for the first three bytes of a text, before which no bytes stand.
-fn front_fault(text: &[u8]) -> u8
-    requires { ⌜ 3 ≤ length (now text) ⌝ }
-    ensures { λ r. ⌜ r ≡ worstFrom 0 0 0 0 (take 3 (now (text .entry))) ⌝ }
-{
-    let front: [u8; 6] = [0, 0, 0, text[0], text[1], text[2]];
-    worst_fault(&front)
-}
-
-// Whether no tail is wanted behind the last three bytes of a text.
-fn ends_clean(text: &[u8]) -> bool
-    requires { ⌜ 3 ≤ length (now text) ⌝ }
-    ensures { λ r. ⌜ r ≡ cleanBehind (drop (length (now (text .entry)) - 3) (now (text .entry))) ⌝ }
-{
-    if 0xC0 <= text[text.len() - 1] {
-        return false;
-    }
-    if 0xE0 <= text[text.len() - 2] {
-        return false;
-    }
-    text[text.len() - 3] < 0xF0
-}
-
-// Whether no byte from an offset on is at fault, and no tail is wanted at the end: by blocks, then the rest at once.
-fn clean_from(text: &[u8], from: usize) -> bool
-    requires { ⌜ (3 ≤ from) × (from ≤ length (now text)) ⌝ }
-    ensures { λ r. ⌜ r ≡ cleanBehind (drop (from - 3) (now (text .entry))) ⌝ }
-{
-    let mut at = from;
-    while 256 <= text.len() - at {
-        let a = at - 3;
-        let e = at + 256;
-        if worst_fault(&text[a..e]) != 0 {
-            return false;
-        }
-        at = e;
-    }
-    let a = at - 3;
-    if worst_fault(&text[a..]) != 0 {
-        return false;
-    }
-    ends_clean(text)
-}
-
-// Whether a long text is UTF-8: what is ASCII at the front is passed in blocks, then every byte is held against the three before it.
-fn long_utf8(text: &[u8]) -> bool
-    requires { ⌜ 3 ≤ length (now text) ⌝ }
-    ensures { λ r. ⌜ r ≡ isUtf8 (now (text .entry)) ⌝ }
-{
-    let at = ascii_front(text);
-    if at == text.len() {
-        return true;
-    }
-    if 3 <= at {
-        return clean_from(text, at);
-    }
-    if front_fault(text) != 0 {
-        return false;
-    }
-    clean_from(text, 3)
-}
-
 // How many of the first four bytes are below 128, up to the first that is not; 0 where there are less than three bytes.
 fn ascii_lead(text: &[u8]) -> usize
     ensures { λ r. ⌜ r ≡ asciiLead (now (text .entry)) ⌝ }
@@ -306,12 +122,59 @@ fn ascii_lead(text: &[u8]) -> usize
     4
 }
 
+// The higher of the two bytes at an offset.
+fn highest_two(s: &[u8], at: usize) -> u8
+    requires { ⌜ at + 2 ≤ length (now s) ⌝ }
+    ensures { λ r. ⌜ r ≡ highestIn at 2 (now (s .entry)) ⌝ }
+{
+    block_validation::larger(s[at], s[at + 1])
+}
+
+// The highest of four bytes. Of such pairs of pairs the compiler makes one vector.
+fn highest_four(s: &[u8], at: usize) -> u8
+    requires { ⌜ at + 4 ≤ length (now s) ⌝ }
+    ensures { λ r. ⌜ r ≡ highestIn at 4 (now (s .entry)) ⌝ }
+{
+    block_validation::larger(highest_two(s, at), highest_two(s, at + 2))
+}
+
+fn highest_eight(s: &[u8], at: usize) -> u8
+    requires { ⌜ at + 8 ≤ length (now s) ⌝ }
+    ensures { λ r. ⌜ r ≡ highestIn at 8 (now (s .entry)) ⌝ }
+{
+    block_validation::larger(highest_four(s, at), highest_four(s, at + 4))
+}
+
+fn highest_sixteen(s: &[u8], at: usize) -> u8
+    requires { ⌜ at + 16 ≤ length (now s) ⌝ }
+    ensures { λ r. ⌜ r ≡ highestIn at 16 (now (s .entry)) ⌝ }
+{
+    block_validation::larger(highest_eight(s, at), highest_eight(s, at + 8))
+}
+
+// Whether a text of eight bytes or more is ASCII. Up to 32 bytes, the first and the last eight or sixteen are all there are.
+fn is_ascii(text: &[u8]) -> bool
+    requires { ⌜ 8 ≤ length (now text) ⌝ }
+    ensures { λ r. ⌜ r ≡ ltb (highestFrom 0 (now (text .entry))) 128 ⌝ }
+{
+    if text.len() < 16 {
+        let last = text.len() - 8;
+        return block_validation::larger(highest_eight(text, last), highest_eight(text, 0)) < 128;
+    }
+    if text.len() < 33 {
+        let last = text.len() - 16;
+        return block_validation::larger(highest_sixteen(text, last), highest_sixteen(text, 0))
+            < 128;
+    }
+    block_validation::highest(text) < 128
+}
+
 // Whether a short text is UTF-8, character by character where it is not ASCII.
 fn short_utf8(text: &[u8]) -> bool
     ensures { λ r. ⌜ r ≡ isUtf8 (now (text .entry)) ⌝ }
 {
     if 8 <= text.len() {
-        if highest(text) < 0x80 {
+        if is_ascii(text) {
             return true;
         }
     }
@@ -333,5 +196,5 @@ pub fn is_utf8(text: &[u8]) -> bool
     if text.len() < 128 {
         return short_utf8(text);
     }
-    long_utf8(text)
+    block_validation::long_utf8(text)
 }

@@ -1,18 +1,22 @@
 -- `body::check_end` meets its contract.
 -- Assumes nothing.
-use mathlib.Core.Path.{_≡_, sym, ap, _∙_}
+use mathlib.Core.Path.{_≡_, refl, sym, ap, _∙_}
 use native.Mathlib.Omega.{arith}
 use lib.ListN.{drop}
 use Rattle.err.proofs.Positive.{number-positive}
 use Rattle.scan.proofs.Parts.{part-to-end}
-use Rattle.parse.specs.Suffix.{faultOf, suffixFault}
+use Rattle.suffix.specs.Suffix.{faultOf, suffixFault}
+use Rattle.suffix.proofs.Suffixes.{no-suffix}
 use Rattle.body.proofs.Strings as strings
 use borrow.Author.Needs.{needs}
 use Rattle.body.proofs.check_end.Statement.{statement}
 use Rattle.body.proofs.check_end.Tie as tie
 
-found : (c : tie.After-check-suffix) → faultOf (c .check-suffix .result) ≡ suffixFault (drop (c .before .before .before .args .lit .«start_suffix») (c .before .before .before .args .text .now))
+found : (c : tie.After-check-suffix) → faultOf (c .check-suffix .result) ≡ suffixFault (drop (c .before .before .before .before .args .lit .«start_suffix») (c .before .before .before .before .args .text .now))
 found c = c .check-suffix .ensures ∙ rw part-to-end
+
+returns : tie.Need-returns
+returns c = strings.suffix-good _ _ _ _ _ refl (no-suffix _ _ (c .if1 .taken))
 
 sub-check-suffix : tie.Need-sub-check-suffix
 sub-check-suffix c = search needs
@@ -32,14 +36,14 @@ enum-known-checked c = search needs
 enum-told : tie.Need-enum-told
 enum-told c = search needs
 
-returns : tie.Need-returns
-returns c = strings.suffix-good _ _ _ _ _ (found (c .before .before)) (ap faultOf (c .enum-told .given .1))
-
-add-t7 : tie.Need-add-t7
-add-t7 c = search needs
-
 returns-2 : tie.Need-returns-2
-returns-2 c =
+returns-2 c = strings.suffix-good _ _ _ _ _ (found (c .before .before)) (ap faultOf (c .enum-told .given .1))
+
+add-t6 : tie.Need-add-t6
+add-t6 c = search needs
+
+returns-3 : tie.Need-returns-3
+returns-3 c =
     strings.suffix-bad _ _ _ _ _ (sym (ap faultOf (c .before .checked .given .1)) ∙ found (c .before .before .before))
     (λ e. omega (arith, number-positive (c .before .checked .given .0 .0)))
 
@@ -47,12 +51,13 @@ pub check-end-spec : {M : Type 1} → statement M
 check-end-spec =
     tie.close
     (tie.spec
+    returns
     sub-check-suffix
     part-check-suffix-start
     part-check-suffix-end
     check-suffix-requires
     enum-known-checked
     enum-told
-    returns
-    add-t7
-    returns-2)
+    returns-2
+    add-t6
+    returns-3)

@@ -9,7 +9,8 @@ use lib.ListN.{length, getD, take, drop, length-append}
 use Rattle.scan.proofs.Bytes.{byte-inside}
 use Rattle.utf8.proofs.Cuts.{last-le}
 use Rattle.escape.specs.declared.Allowed.{Allowed}
-use Rattle.body.specs.Step.{backslashOf, stepOf, plainByte}
+use Rattle.plain_run.specs.Plain.{plainByte}
+use Rattle.body.specs.Step.{backslashOf, stepOf}
 use Rattle.body.specs.Stride.{valueIn}
 use Rattle.body.proofs.Steps as steps
 use Rattle.body.proofs.Within.{step-in}

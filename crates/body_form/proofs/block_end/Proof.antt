@@ -8,7 +8,7 @@ use lib.ListN.{length, drop, length-drop}
 use Rattle.scan.specs.Run.{run}
 use Rattle.scan.proofs.Runs.{run-le}
 use Rattle.quoting.specs.Styled.{itself}
-use Rattle.body.proofs.Blocks.{block-stop, block-past}
+use Rattle.plain_run.proofs.Blocks.{block-stop, block-past}
 use Rattle.body_form.proofs.block_end.Statement.{statement}
 use Rattle.body_form.proofs.block_end.Tie as tie
 

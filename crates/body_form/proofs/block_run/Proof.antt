@@ -3,7 +3,7 @@
 use borrow.Author.Needs.{needs}
 use Prim.Native.Nat.{_-_}
 use Rattle.quoting.specs.Styled.{itself}
-use Rattle.body.proofs.Blocks.{Least, least-start, least-more, least-end}
+use Rattle.plain_run.proofs.Blocks.{Least, least-start, least-more, least-end}
 use Rattle.body_form.proofs.block_run.Statement.{statement}
 use Rattle.body_form.proofs.block_run.Tie as tie
 

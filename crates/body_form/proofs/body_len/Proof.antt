@@ -13,7 +13,8 @@ use Rattle.escape.specs.declared.Allowed.{Allowed}
 use Rattle.escape.specs.declared.Unescaped.{Unescaped}
 use Rattle.body.specs.Body.{body}
 use Rattle.body.specs.Code.{Stopped}
-use Rattle.body.specs.Step.{piece, stepOf, plainByte}
+use Rattle.plain_run.specs.Plain.{plainByte}
+use Rattle.body.specs.Step.{piece, stepOf}
 use Rattle.body.proofs.Bodies as bodies
 use Rattle.body.proofs.Codes.{code-step}
 use Rattle.body.proofs.Runs as runs

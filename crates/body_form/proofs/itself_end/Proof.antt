@@ -2,7 +2,7 @@
 -- Assumes nothing.
 use borrow.Author.Needs.{needs}
 use mathlib.Core.Path.{_∙_}
-use Rattle.body.proofs.Blocks.{run-rest}
+use Rattle.plain_run.proofs.Blocks.{run-rest}
 use Rattle.body_form.proofs.itself_end.Statement.{statement}
 use Rattle.body_form.proofs.itself_end.Tie as tie
 

@@ -12,7 +12,8 @@ use Rattle.buffer.proofs.Laws as laws
 use Rattle.utf8.proofs.Cuts.{last-le}
 use Rattle.escape.specs.declared.Allowed.{Allowed}
 use Rattle.body.specs.Body.{Body, bodyBy, body}
-use Rattle.body.specs.Step.{backslashOf, stepOf, plainByte}
+use Rattle.plain_run.specs.Plain.{plainByte}
+use Rattle.body.specs.Step.{backslashOf, stepOf}
 use Rattle.body.specs.Stride.{valueIn}
 use Rattle.body.proofs.Bodies as bodies
 use Rattle.body.proofs.Runs as runs

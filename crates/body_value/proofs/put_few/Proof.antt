@@ -12,7 +12,7 @@ use Rattle.buffer.specs.Buffer.{Wrote}
 use Rattle.buffer.proofs.Laws as laws
 use Rattle.scan.specs.Run.{run}
 use Rattle.scan.proofs.Runs.{run-more, run-stop, run-end}
-use Rattle.body.specs.Step.{plainByte}
+use Rattle.plain_run.specs.Plain.{plainByte}
 use Rattle.body.proofs.Strides.{written-as}
 use Rattle.body_value.proofs.put_few.Statement.{statement}
 use Rattle.body_value.proofs.put_few.Tie as tie

@@ -12,7 +12,7 @@ use Rattle.scan.specs.Run.{run}
 use Rattle.scan.proofs.Runs.{run-more, run-stop}
 use Rattle.scan.proofs.Bytes.{byte-inside}
 use Rattle.escape.specs.declared.Allowed.{Allowed}
-use Rattle.body.specs.Step.{plainByte}
+use Rattle.plain_run.specs.Plain.{plainByte}
 use Rattle.body.proofs.Strides.{written-as}
 use Rattle.body_value.proofs.put_next.Statement.{statement}
 use Rattle.body_value.proofs.put_next.Tie as tie

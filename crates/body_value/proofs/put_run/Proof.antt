@@ -9,8 +9,8 @@ use lib.ListN.{length, take, drop, length-append, length-drop, length-take}
 use Rattle.buffer.proofs.Laws as laws
 use Rattle.scan.specs.Run.{run}
 use Rattle.scan.proofs.Runs.{run-le}
-use Rattle.body.specs.Step.{plainByte}
-use Rattle.body.proofs.Blocks.{few-count, few-all, few-rest}
+use Rattle.plain_run.specs.Plain.{plainByte}
+use Rattle.plain_run.proofs.Blocks.{few-count, few-all, few-rest}
 use Rattle.body.proofs.Strides.{written-as}
 use Rattle.body.proofs.Runs as runs
 use Rattle.body_value.proofs.put_run.Statement.{statement}

@@ -11,7 +11,8 @@ use Rattle.err.specs.Outcome.{refused, none}
 use Rattle.scan.specs.Run.{run}
 use Rattle.scan.specs.Sets.{except}
 use Rattle.scan.proofs.Parts.{part-to-end}
-use Rattle.character.specs.Single.{unterminated, overlong, closedAt}
+use Rattle.single_quote.specs.Quote.{unterminated, overlong}
+use Rattle.character.specs.Single.{closedAt}
 use Rattle.character.proofs.Within.{quote-there}
 use borrow.Author.Needs.{needs}
 use Rattle.character.proofs.closed.Statement.{statement}

@@ -11,8 +11,10 @@ use Rattle.escape.specs.Escape.{escapedOf, escapeOf}
 use Rattle.escape_code.specs.Code.{codedLen, codedValue}
 use Rattle.escape_code.specs.At.{letterAt, xAt}
 use Rattle.escape_code.proofs.At.{letter-escape, x-escape, coded-escape}
-use Rattle.character.specs.declared.Quote.{Quote}
-use Rattle.character.specs.Single.{content, allowedIn, scalarOf, escapedBy, escapedAt}
+use Rattle.single_quote.specs.Quote.{allowedIn}
+use Rattle.single_quote.specs.Content.{content}
+use Rattle.single_quote.specs.declared.Quote.{Quote}
+use Rattle.character.specs.Single.{scalarOf, escapedBy, escapedAt}
 use Rattle.character.proofs.Within.{escape-span}
 use borrow.Author.Needs.{needs}
 use Rattle.character.proofs.escaped.Statement.{statement}

@@ -3,7 +3,8 @@
 use mathlib.Core.Path.{_≡_, ap, _∙_}
 use mathlib.Core.Bool.{cond}
 use borrow.Author.Tests.{not-true, not-false}
-use Rattle.character.specs.Single.{singleOf, singleAt, readBy, startFault}
+use Rattle.single_quote.specs.Quote.{startFault}
+use Rattle.character.specs.Single.{singleOf, singleAt, readBy}
 use Rattle.character.proofs.Start.{read-none, read-some}
 use Rattle.character.proofs.Values.{value-fits}
 use borrow.Author.Needs.{needs}
@@ -56,13 +57,18 @@ reading-requires c κs =
 enum-known-lit-2 : tie.Need-enum-known-lit-2
 enum-known-lit-2 c = search needs
 
+perr-at-requires : tie.Need-perr-at-requires
+perr-at-requires c κs = search needs
+
 returns-3 : tie.Need-returns-3
 returns-3 c =
     let b = c .before .before in
     rw (by-single (b .before .before), b .lit .given .1) (c .reading .ensures)
 
 returns-4 : tie.Need-returns-4
-returns-4 c = rw (by-single (c .before .before .before), c .before .lit2 .given .1)
+returns-4 c =
+    let b = c .before .before in
+    rw (by-single (b .before .before), b .lit2 .given .1) (c .perr-at .ensures)
 
 pub parse-spec : {M : Type 1} → statement M
 parse-spec =
@@ -77,5 +83,6 @@ parse-spec =
     enum-known-lit
     reading-requires
     enum-known-lit-2
+    perr-at-requires
     returns-3
     returns-4)

@@ -5,7 +5,8 @@ use Prim.Native.Nat.{_+_, _≤_}
 use native.Mathlib.Omega.{arith}
 use lib.ListN.{length}
 use borrow.Author.Tests.{lt-ltb, le-ltb}
-use Rattle.character.specs.Single.{innerOf, closedBy, singleAt}
+use Rattle.single_quote.specs.Content.{innerOf}
+use Rattle.character.specs.Single.{closedBy, singleAt}
 use Rattle.character.proofs.Within.{content-ends}
 use borrow.Author.Needs.{needs}
 use Rattle.character.proofs.parse_impl.Statement.{statement}

@@ -1,9 +1,35 @@
 -- `desk::keybasket_read` meets its contract.
 -- Assumes nothing.
-use mathlib.Core.Path.{refl}
+use mathlib.Core.Path.{refl, sym, _∙_}
 use borrow.Author.Needs.{needs}
+use Rattle.desk.proofs.Short.{bool-numbers, nothing-numbers}
 use Rattle.desk.proofs.keybasket_read.Statement.{statement}
 use Rattle.desk.proofs.keybasket_read.Tie as tie
+
+is-bool-at-requires : tie.Need-is-bool-at-requires
+is-bool-at-requires c κs = search needs
+
+is-true-requires : tie.Need-is-true-requires
+is-true-requires c κs = search needs
+
+truth-requires : tie.Need-truth-requires
+truth-requires c κs = search needs
+
+returns : tie.Need-returns
+returns c =
+    let b = c .before .before .before in
+    let a = b .before .before .before .args in
+    let h = bool-numbers (a .entry) (a .text .now) (sym (b .before .is-bool-at .ensures) ∙ b .if1 .taken) in
+    (rw (h, c .before .truth .ensures, c .before .before .is-true .ensures) refl, refl)
+
+is-nothing-requires : tie.Need-is-nothing-requires
+is-nothing-requires c κs = search needs
+
+returns-2 : tie.Need-returns-2
+returns-2 c =
+    let b = c .before .before in
+    let a = b .before .before .before .before .args in
+    (rw (nothing-numbers (a .entry) (a .text .now) (sym (b .is-nothing .ensures) ∙ c .before .if2 .taken)) refl, refl)
 
 read-requires : tie.Need-read-requires
 read-requires c κs = search needs
@@ -23,8 +49,8 @@ span-numbers-requires c κs = search needs
 enum-known-found-2 : tie.Need-enum-known-found-2
 enum-known-found-2 c = search needs
 
-truth-requires : tie.Need-truth-requires
-truth-requires c κs = search needs
+truth-requires-2 : tie.Need-truth-requires-2
+truth-requires-2 c κs = search needs
 
 enum-known-found-3 : tie.Need-enum-known-found-3
 enum-known-found-3 c = search needs
@@ -41,8 +67,8 @@ float-numbers-requires c κs = search needs
 enum-known-found-5 : tie.Need-enum-known-found-5
 enum-known-found-5 c = search needs
 
-cast-t23 : tie.Need-cast-t23
-cast-t23 c = search needs
+cast-t29 : tie.Need-cast-t29
+cast-t29 c = search needs
 
 enum-known-found-6 : tie.Need-enum-known-found-6
 enum-known-found-6 c = search needs
@@ -53,8 +79,8 @@ string-numbers-requires c κs = search needs
 enum-known-found-7 : tie.Need-enum-known-found-7
 enum-known-found-7 c = search needs
 
-cast-t26 : tie.Need-cast-t26
-cast-t26 c = search needs
+cast-t32 : tie.Need-cast-t32
+cast-t32 c = search needs
 
 enum-known-found-8 : tie.Need-enum-known-found-8
 enum-known-found-8 c = search needs
@@ -68,48 +94,48 @@ enum-known-found-9 c = search needs
 string-numbers-requires-3 : tie.Need-string-numbers-requires-3
 string-numbers-requires-3 c κs = search needs
 
-returns : tie.Need-returns
-returns c =
+returns-3 : tie.Need-returns-3
+returns-3 c =
     let f = c .before .before .before in
     (rw (← f .before .before .read .ensures .0, f .found .given .1, ← c .before .number .ensures) (c .span-numbers .ensures), refl)
 
-returns-2 : tie.Need-returns-2
-returns-2 c =
-    let f = c .before .before .before in
-    (rw (← f .before .before .read .ensures .0, f .found2 .given .1, c .before .truth .ensures) refl, refl)
-
-returns-3 : tie.Need-returns-3
-returns-3 c =
-    let f = c .before .before in
-    (rw (← f .before .before .read .ensures .0, f .found3 .given .1) (c .integer-numbers .ensures), refl)
-
 returns-4 : tie.Need-returns-4
 returns-4 c =
-    let f = c .before .before in
-    (rw (← f .before .before .read .ensures .0, f .found4 .given .1) (c .float-numbers .ensures), refl)
+    let f = c .before .before .before in
+    (rw (← f .before .before .read .ensures .0, f .found2 .given .1, c .before .truth2 .ensures) refl, refl)
 
 returns-5 : tie.Need-returns-5
 returns-5 c =
-    let f = c .before .before .before in
-    (rw (← f .before .before .read .ensures .0, f .found5 .given .1) refl, refl)
+    let f = c .before .before in
+    (rw (← f .before .before .read .ensures .0, f .found3 .given .1) (c .integer-numbers .ensures), refl)
 
 returns-6 : tie.Need-returns-6
 returns-6 c =
     let f = c .before .before in
-    (rw (← f .before .before .read .ensures .0, f .found6 .given .1) (c .string-numbers .ensures), refl)
+    (rw (← f .before .before .read .ensures .0, f .found4 .given .1) (c .float-numbers .ensures), refl)
 
 returns-7 : tie.Need-returns-7
 returns-7 c =
     let f = c .before .before .before in
-    (rw (← f .before .before .read .ensures .0, f .found7 .given .1) refl, refl)
+    (rw (← f .before .before .read .ensures .0, f .found5 .given .1) refl, refl)
 
 returns-8 : tie.Need-returns-8
 returns-8 c =
     let f = c .before .before in
-    (rw (← f .before .before .read .ensures .0, f .found8 .given .1) (c .string-numbers2 .ensures), refl)
+    (rw (← f .before .before .read .ensures .0, f .found6 .given .1) (c .string-numbers .ensures), refl)
 
 returns-9 : tie.Need-returns-9
 returns-9 c =
+    let f = c .before .before .before in
+    (rw (← f .before .before .read .ensures .0, f .found7 .given .1) refl, refl)
+
+returns-10 : tie.Need-returns-10
+returns-10 c =
+    let f = c .before .before in
+    (rw (← f .before .before .read .ensures .0, f .found8 .given .1) (c .string-numbers2 .ensures), refl)
+
+returns-11 : tie.Need-returns-11
+returns-11 c =
     let f = c .before .before in
     (rw (← f .before .before .read .ensures .0, f .found9 .given .1) (c .string-numbers3 .ensures), refl)
 
@@ -117,33 +143,39 @@ pub keybasket-read-spec : {M : Type 1} → statement M
 keybasket-read-spec =
     tie.close
     (tie.spec
+    is-bool-at-requires
+    is-true-requires
+    truth-requires
+    returns
+    is-nothing-requires
+    returns-2
     read-requires
     enum-known-found
     number-requires
     cast-span-numbers
     span-numbers-requires
     enum-known-found-2
-    truth-requires
+    truth-requires-2
     enum-known-found-3
     integer-numbers-requires
     enum-known-found-4
     float-numbers-requires
     enum-known-found-5
-    cast-t23
+    cast-t29
     enum-known-found-6
     string-numbers-requires
     enum-known-found-7
-    cast-t26
+    cast-t32
     enum-known-found-8
     string-numbers-requires-2
     enum-known-found-9
     string-numbers-requires-3
-    returns
-    returns-2
     returns-3
     returns-4
     returns-5
     returns-6
     returns-7
     returns-8
-    returns-9)
+    returns-9
+    returns-10
+    returns-11)

@@ -5,9 +5,9 @@ use native.Mathlib.Omega.{arith}
 use borrow.Author.Tests.{ne-eqb, le-leb, lt-leb}
 use Rattle.err.specs.Numbers.{numberOf}
 use Rattle.err.proofs.Positive.{number-positive}
-use Rattle.literal.specs.Checks.{faultOf}
+use Rattle.input.specs.Checks.{faultOf}
+use Rattle.input.proofs.Checks.{fault-passed}
 use Rattle.literal.specs.Readings.{readAt}
-use Rattle.literal.proofs.Checks.{fault-passed}
 use Rattle.literal.proofs.Bools.{bool-read}
 use borrow.Author.Needs.{needs}
 use Rattle.literal.proofs.read.Statement.{statement}

@@ -7,7 +7,7 @@ use Prim.Native.Nat.{ℕ, _-_}
 use native.Mathlib.Omega.{arith}
 use lib.ListN.{length, getD, take, drop}
 use Rattle.scan.proofs.Parts.{part-to-end}
-use Rattle.integer.specs.Value.{number}
+use Rattle.integer_value.specs.Value.{number}
 use Rattle.scan.proofs.Bytes.{byte-inside}
 use Rattle.scaling.specs.Scaled.{capped}
 use Rattle.scaling.proofs.Signs as signs

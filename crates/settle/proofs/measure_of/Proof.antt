@@ -6,7 +6,8 @@ use Prim.Native.Nat.{_≤_}
 use native.Mathlib.Omega.{arith}
 use lib.ListN.{length}
 use Rattle.err.specs.Reading.{outcomeOf}
-use Rattle.bare_form.specs.Bare.{len, bareOf, bareBy, suffixIn}
+use Rattle.numbers.specs.Numbers.{suffixIn}
+use Rattle.bare_form.specs.Bare.{len, bareOf, bareBy}
 use Rattle.settle.proofs.Forms.{form-inside, measure-refused, measure-long, measure-formed}
 use Rattle.settle.proofs.measure_of.Statement.{statement}
 use Rattle.settle.proofs.measure_of.Tie as tie

@@ -8,7 +8,7 @@ use Rattle.scan.proofs.Parts.{part-to-end}
 use Rattle.err.specs.Reading.{outcomeOf}
 use Rattle.buffer.specs.Buffer.{Wrote}
 use Rattle.buffer.proofs.Laws as laws
-use Rattle.bare_form.specs.Bare.{suffixIn}
+use Rattle.numbers.specs.Numbers.{suffixIn}
 use Rattle.settle.proofs.Forms.{form-inside, form-split, fits-both, roomy}
 use Rattle.settle.proofs.put_reading.Statement.{statement}
 use Rattle.settle.proofs.put_reading.Tie as tie

@@ -11,7 +11,7 @@ use Rattle.err.specs.Reading.{outcomeOf}
 use Rattle.err.specs.declared.Reading.{Reading}
 use Rattle.err.specs.declared.Reading.the-variants as reading
 use Rattle.err.proofs.Reading.{the-type}
-use Rattle.bare_form.specs.Bare.{kindIn}
+use Rattle.numbers.specs.Numbers.{kindIn}
 use Rattle.settle.proofs.settle.Statement.{statement}
 use Rattle.settle.proofs.settle.Tie as tie
 

@@ -7,8 +7,8 @@ use native.Mathlib.Omega.{arith}
 use lib.ListN.{length, drop}
 use Rattle.scan.proofs.Parts.{part-to-end}
 use Rattle.form.specs.Form.{integerForm}
-use Rattle.integer.specs.Value.{within}
-use Rattle.integer.specs.declared.Within.the-variants.{Number}
+use Rattle.integer_value.specs.Value.{within}
+use Rattle.integer_value.specs.declared.Within.the-variants.{Number}
 use Rattle.settle.specs.Settled.{formed}
 use Rattle.bare_form.proofs.Readings.{integer-ends}
 use Rattle.settle.proofs.Forms.{numberIn, integer-over, integer-form, integer-size, integer-long, integer-formed, settle-refused, settle-small, settle-written}

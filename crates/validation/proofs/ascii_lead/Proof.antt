@@ -4,7 +4,7 @@ use mathlib.Core.List.{List}
 use Prim.Native.Nat.{ℕ}
 use native.Mathlib.Omega.{arith}
 use borrow.Author.Needs.{needs}
-use Rattle.validation.proofs.HighBytes.{Led, lead-none, led-more, led-stop, led-end, led-four}
+use Rattle.validation.proofs.Lead.{Led, lead-none, led-more, led-stop, led-end, led-four}
 use Rattle.validation.proofs.ascii_lead.Statement.{statement}
 use Rattle.validation.proofs.ascii_lead.Tie as tie
 

@@ -8,7 +8,8 @@ use borrow.Author.Needs.{needs}
 use borrow.Author.Tests.{not-true, not-false}
 use Rattle.utf8.specs.Decode.{lenOf}
 use Rattle.utf8.specs.Cut.{tail}
-use Rattle.validation.proofs.Ranges.{len-no-tail, len-above, is-four, overlong4, above4, range4, no-third4, no-fourth4}
+use Rattle.block_validation.proofs.Ranges.{overlong4, above4, range4, no-third4, no-fourth4}
+use Rattle.validation.proofs.Pairs.{len-no-tail, len-above, is-four}
 use Rattle.validation.proofs.four_len.Statement.{statement}
 use Rattle.validation.proofs.four_len.Tie as tie
 

@@ -5,12 +5,14 @@ use Prim.Native.Nat.{_+_, _-_, _≤_, _<_}
 use native.Mathlib.Omega.{arith}
 use lib.ListN.{length, drop}
 use borrow.Author.Needs.{needs}
+use borrow.Author.Tests.{ltb-true}
 use Rattle.scan.specs.Run.{run}
 use Rattle.scan.proofs.Runs.{run-le}
 use Rattle.utf8.specs.Valid.{isUtf8}
-use Rattle.validation.specs.HighBytes.{ascii}
-use Rattle.validation.proofs.HighBytes.{highest-above, ascii-each, lead-le}
 use Rattle.utf8.proofs.Valid.{isUtf8-end, isUtf8-char, isUtf8-bad, isUtf8-front, isUtf8-ascii}
+use Rattle.block_validation.specs.HighBytes.{ascii, highestFrom}
+use Rattle.block_validation.proofs.HighBytes.{highest-above, ascii-each}
+use Rattle.validation.proofs.Lead.{lead-le}
 use Rattle.validation.proofs.short_utf8.Statement.{statement}
 use Rattle.validation.proofs.short_utf8.Tie as tie
 
@@ -21,13 +23,13 @@ Inv-loop text at₀ at = (at ≤ length text) × (isUtf8 (drop at text) ≡ isUt
 abbrev μ-loop : tie.MeasureT-loop
 μ-loop text at₀ at = length text - at
 
-highest-requires : tie.Need-highest-requires Inv-loop μ-loop
-highest-requires c κs = search needs
+is-ascii-requires : tie.Need-is-ascii-requires Inv-loop μ-loop
+is-ascii-requires c κs = search needs
 
 returns : tie.Need-returns Inv-loop μ-loop
 returns c =
     let t = c .before .before .before .before .args .text .now in
-    isUtf8-ascii t (λ k h. omega (arith, c .before .highest .ensures, highest-above 0 t k h))
+    isUtf8-ascii t (λ k h. omega (arith, ltb-true (highestFrom 0 t) 128 (sym (c .before .is-ascii .ensures) ∙ c .if2 .taken), highest-above 0 t k h))
 
 ascii-lead-requires : tie.Need-ascii-lead-requires Inv-loop μ-loop
 ascii-lead-requires c κs = search needs
@@ -75,7 +77,7 @@ short-utf8-spec =
     (tie.spec
     Inv-loop
     μ-loop
-    highest-requires
+    is-ascii-requires
     returns
     ascii-lead-requires
     loop-holds

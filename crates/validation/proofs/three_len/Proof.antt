@@ -8,7 +8,8 @@ use borrow.Author.Needs.{needs}
 use borrow.Author.Tests.{not-true, not-false}
 use Rattle.utf8.specs.Decode.{lenOf}
 use Rattle.utf8.specs.Cut.{tail}
-use Rattle.validation.proofs.Ranges.{len-no-tail, is-three, overlong3, surrogate3, range3, no-third3}
+use Rattle.block_validation.proofs.Ranges.{overlong3, surrogate3, range3, no-third3}
+use Rattle.validation.proofs.Pairs.{len-no-tail, is-three}
 use Rattle.validation.proofs.three_len.Statement.{statement}
 use Rattle.validation.proofs.three_len.Tie as tie
 

@@ -3,7 +3,8 @@
 use mathlib.Core.Path.{sym, _∙_}
 use native.Mathlib.Omega.{arith}
 use borrow.Author.Needs.{needs}
-use Rattle.validation.proofs.Ranges.{len-one, len-no-first, len-last, pair-at, len-no-tail, len-two}
+use Rattle.block_validation.proofs.Ranges.{len-one, len-no-first, len-last}
+use Rattle.validation.proofs.Pairs.{pair-at, len-no-tail, len-two}
 use Rattle.validation.proofs.valid_len.Statement.{statement}
 use Rattle.validation.proofs.valid_len.Tie as tie
 

@@ -1,0 +1,4 @@
+pub mod Ranges
+pub mod HighBytes
+pub mod Clean
+pub mod Faults

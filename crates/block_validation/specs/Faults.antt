@@ -1,0 +1,61 @@
+-- UTF-8 byte by byte, by RFC 3629, section 4; law `clean-text` says that the texts without a fault are exactly those that `isUtf8` accepts.
+--   UTF8-1 = 00-7F                 UTF8-tail = 80-BF
+--   UTF8-2 = C2-DF tail
+--   UTF8-3 = E0 A0-BF tail / E1-EC 2(tail) / ED 80-9F tail / EE-EF 2(tail)
+--   UTF8-4 = F0 90-BF 2(tail) / F1-F3 3(tail) / F4 80-8F 2(tail)
+-- Assumes nothing.
+use mathlib.Core.Bool.{Bool, false, cond, not, _||_, xor}
+use mathlib.Core.List.{List, [], _∷_}
+use Prim.Native.Nat.{ℕ}
+use lib.Dec.{ltb, leb, eqb}
+use lib.ListN.{getD, drop}
+use Rattle.utf8.specs.Cut.{tail}
+use Rattle.block_validation.specs.HighBytes.{largerOf}
+
+-- section 4: behind E0 stands A0 or above, behind F0 stands 90 or above
+unfoldable pub leastBehind : ℕ → ℕ
+leastBehind a = cond (eqb a 0xE0) 0xA0 (cond (eqb a 0xF0) 0x90 0)
+
+-- section 4: behind ED stands 9F or below, behind F4 stands 8F or below
+unfoldable pub mostBehind : ℕ → ℕ
+mostBehind a = cond (eqb a 0xED) 0x9F (cond (eqb a 0xF4) 0x8F 0xFF)
+
+-- section 4: a tail stands behind c, b, a (a the last) where a starts a character, or b one of three bytes or four, or c one of four
+unfoldable pub wantsTail : ℕ → ℕ → ℕ → Bool
+wantsTail c b a = leb 0xC0 a || (leb 0xE0 b || leb 0xF0 c)
+
+-- section 4: C0, C1 and F5 to FF stand nowhere
+unfoldable pub never : ℕ → Bool
+never x = eqb x 0xC0 || (eqb x 0xC1 || ltb 0xF4 x)
+
+-- a byte x outside the range behind a
+unfoldable pub outside : ℕ → ℕ → Bool
+outside a x = ltb x (leastBehind a) || ltb (mostBehind a) x
+
+-- the byte x breaks one of these rules behind c, b, a: a tail exactly where one is wanted, no byte that stands nowhere, no byte out of range
+unfoldable pub breaks : ℕ → ℕ → ℕ → ℕ → Bool
+breaks c b a x = xor (wantsTail c b a) (tail x) || (never x || outside a x)
+
+-- a test as a byte: 255 where it holds
+unfoldable pub mask : Bool → ℕ
+mask t = cond t 255 0
+
+abbrev pub faultOf : ℕ → ℕ → ℕ → ℕ → ℕ
+faultOf c b a x = mask (breaks c b a x)
+
+-- the highest of m and these numbers over the bytes behind c, b, a; from m = 0 it is 0 exactly where no byte is at fault
+abbrev pub worstFrom : ℕ → ℕ → ℕ → ℕ → List ℕ → ℕ
+worstFrom m c b a [] = m
+worstFrom m c b a (x ∷ s) = worstFrom (largerOf m (faultOf c b a x)) b a x s
+
+-- no byte behind c, b, a is at fault, and at the end no tail is wanted
+abbrev pub clean : ℕ → ℕ → ℕ → List ℕ → Bool
+clean c b a [] = not (wantsTail c b a)
+clean c b a (x ∷ s) = cond (eqb (faultOf c b a x) 0) (clean b a x s) false
+
+-- the two of the bytes behind the first three of a list
+abbrev pub worstBehind : List ℕ → ℕ
+worstBehind s = worstFrom 0 (getD s 0 0) (getD s 1 0) (getD s 2 0) (drop 3 s)
+
+abbrev pub cleanBehind : List ℕ → Bool
+cleanBehind s = clean (getD s 0 0) (getD s 1 0) (getD s 2 0) (drop 3 s)

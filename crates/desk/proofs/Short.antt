@@ -1,0 +1,33 @@
+-- What is told of a text without reading it: a bool's numbers, and those of no bytes.
+-- Assumes nothing.
+use mathlib.Core.Path.{_≡_, refl, ap, _∙_}
+use mathlib.Core.Bool.{true, _&&_, and-eq-true-iff}
+use mathlib.Core.List.{List, [], _∷_}
+use Prim.Native.Nat.{ℕ}
+use native.Mathlib.Omega.{arith}
+use lib.Dec.{eqb, leb}
+use lib.ListN.{length}
+use borrow.Author.Tests.{eqb-true}
+use Rattle.err.specs.Outcome.{refused, none}
+use Rattle.scan.specs.Same.{same}
+use Rattle.utf8.specs.Valid.{charsWithin, isUtf8}
+use Rattle.boolean.specs.Bool.{trueText, isBool}
+use Rattle.boolean.proofs.Laws.{bool-truth}
+use Rattle.input.specs.Checks.{textFault}
+use Rattle.literal.specs.Readings.{anyRead, entryRead, boolAt, readAt}
+use Rattle.literal.proofs.Bools.{bool-read}
+use Rattle.numbers.specs.Numbers.{truthNumber, readingNumbers}
+
+pub bool-numbers : (code : ℕ) (s : List ℕ) → boolAt code s ≡ true → readingNumbers (readAt code s) ≡ 1 ∷ length s ∷ truthNumber (same s trueText) ∷ 0 ∷ 0 ∷ []
+unfolding boolAt
+bool-numbers code s h = ap readingNumbers (bool-read code s h ∙ bool-truth s (and-eq-true-iff (leb code 1) (isBool s) .0 h .1))
+
+no-bytes : readAt 0 [] ≡ refused 1 none
+unfolding readAt textFault isUtf8 charsWithin entryRead anyRead
+no-bytes = refl
+
+pub nothing-numbers : (code : ℕ) (s : List ℕ) → (eqb (length s) 0 && eqb code 0) ≡ true → readingNumbers (readAt code s) ≡ 0 ∷ 1 ∷ 0 ∷ 0 ∷ 0 ∷ []
+nothing-numbers code [] h =
+    let e = eqb-true code 0 (and-eq-true-iff true (eqb code 0) .0 h .1) in
+    rw e (ap readingNumbers no-bytes)
+nothing-numbers code (b ∷ s) h = absurd (omega (arith, eqb-true (length (b ∷ s)) 0 (and-eq-true-iff (eqb (length (b ∷ s)) 0) (eqb code 0) .0 h .0)))

@@ -1,0 +1,55 @@
+-- The value of a text by its parts and by its reading.
+-- Assumes nothing.
+use mathlib.Core.Path.{_≡_, refl}
+use mathlib.Core.Bool.{Bool, true, false, cond}
+use mathlib.Core.List.{List, [], _∷_, _++_}
+use Prim.Native.Nat.{ℕ, zero, suc, _+_, _-_}
+use native.Mathlib.Nat.{sub-zero, zero-sub, suc-sub-suc}
+use lib.Dec.{leb}
+use lib.ListN.{length, take, drop}
+use lib.Seq.{slice, take-nil, take-append-add, take-append-seam, drop-append-seam}
+use Rattle.err.specs.Outcome.{Place, refused, accepted, none, digits}
+use Rattle.integer.specs.Integer.{integerRead}
+use Rattle.integer.specs.Parts.{IntegerParts}
+use Rattle.integer.proofs.Parts.{sound, complete, main-part}
+use Rattle.integer_value.specs.declared.Within.{Within}
+use Rattle.integer_value.specs.declared.Within.the-variants.{Number, Over}
+use Rattle.integer_value.specs.Value.{number, within, Valued, given, withheld, bounded, integerValue}
+
+-- a number that is given or above the largest, as a value
+abbrev pub valuedIn : Within → Valued
+valuedIn (Number n) = given n
+valuedIn Over = withheld 45 none
+
+pub bounded-is : (largest n : ℕ) → valuedIn (within largest n) ≡ bounded largest n
+bounded-is largest n = by-test (leb n largest)
+  where
+    by-test : (t : Bool) → valuedIn (cond t (Number n) Over) ≡ cond t (given n) (withheld 45 none)
+    by-test true = refl
+    by-test false = refl
+
+-- a part of a slice, told by its ends
+pub part-slice : (a e : ℕ) (s : List ℕ) → take (e - a) (drop a s) ≡ slice a e s
+part-slice zero e s = rw sub-zero
+part-slice (suc a) zero s = rw zero-sub
+part-slice (suc a) (suc e) [] = rw take-nil
+part-slice (suc a) (suc e) (b ∷ s) = rw suc-sub-suc (part-slice a e s)
+
+-- the value is the number of the digits
+pub value-of-parts : {base : ℕ} {pre main suf : List ℕ} (largest : ℕ) → IntegerParts base pre main suf → integerValue largest (pre ++ (main ++ suf)) ≡ bounded largest (number base main)
+unfolding integerValue
+value-of-parts largest h = rw (complete h, main-part h, h .plain)
+
+-- ---- by a reading
+
+pub value-refused : (largest : ℕ) (s : List ℕ) {n : ℕ} {p : Place} → refused n p ≡ integerRead s → withheld n p ≡ integerValue largest s
+unfolding integerValue
+value-refused largest s h = rw (← h)
+
+pub read-value : (largest : ℕ) (s : List ℕ) {k n base a e : ℕ} → integerRead s ≡ accepted k n (digits base a e) → bounded largest (number base (slice a e s)) ≡ integerValue largest s
+read-value largest s {k} {n} {base} {a} {e} h =
+    let t = sound s k n (digits base a e) h in
+    cc (t .values, t .end, t .text, slice-main (t .pre) (t .main) (t .suf), value-of-parts largest (t .parts))
+  where
+    slice-main : (pre main suf : List ℕ) → slice (length pre) (length pre + length main) (pre ++ (main ++ suf)) ≡ main
+    slice-main pre main suf = rw (take-append-add, take-append-seam, drop-append-seam)

@@ -1,0 +1,50 @@
+-- What litrs's `IntegerLit::value` answers at a type, over the type's largest value (01, Integers).
+-- Assumes nothing.
+use Prim.Native.Nat.{ℕ, _+_, _*_}
+use mathlib.Core.Bool.{cond}
+use mathlib.Core.List.{List, [], _∷_}
+use lib.Dec.{eqb, leb}
+use Rattle.err.specs.Outcome.{Place, Outcome, refused, accepted, none}
+use Rattle.err.specs.Numbers.{numberOf}
+use Rattle.err.specs.Reading.{placeOf}
+use Rattle.parse.specs.Class.{classOf}
+use Rattle.integer.specs.Integer.{baseAt, mainPart, integerRead}
+use Rattle.integer_value.specs.declared.Within.{Within}
+use Rattle.integer_value.specs.declared.Within.the-variants.{Number, Over}
+use Rattle.integer_value.specs.declared.IntegerValue.{IntegerValue}
+use Rattle.integer_value.specs.declared.IntegerValue.the-variants as value
+
+-- the number that digits of a base write behind a number n already read; `_` is passed over
+abbrev pub numberFrom : ℕ → ℕ → List ℕ → ℕ
+numberFrom base n [] = n
+numberFrom base n (b ∷ s) = cond (eqb b 95) (numberFrom base n s) (numberFrom base (n * base + classOf b) s)
+
+-- "the digits' number"
+unfoldable pub number : ℕ → List ℕ → ℕ
+number base s = numberFrom base 0 s
+
+-- "given exactly when at most the type's largest"
+abbrev pub within : ℕ → ℕ → Within
+within largest n = cond (leb n largest) (Number n) Over
+
+-- a value, or a refusal's number and span
+pub data Valued : Type 0 where
+  given : ℕ → Valued
+  withheld : ℕ → Place → Valued
+
+abbrev pub valuedOf : IntegerValue → Valued
+valuedOf (value.Given n) = given n
+valuedOf (value.Refused k p) = withheld (numberOf k) (placeOf p)
+
+-- above the largest it is 45
+abbrev pub bounded : ℕ → ℕ → Valued
+bounded largest n = cond (leb n largest) (given n) (withheld 45 none)
+
+-- a reading's own refusal comes through
+abbrev pub ofReading : Outcome → Valued → Valued
+ofReading (refused n p) v = withheld n p
+ofReading (accepted k e vs) v = v
+
+-- "The value, of entry 2's reading, is the digits' number"
+unfoldable pub integerValue : ℕ → List ℕ → Valued
+integerValue largest s = ofReading (integerRead s) (bounded largest (number (baseAt s) (mainPart s)))

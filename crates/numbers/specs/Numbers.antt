@@ -1,0 +1,47 @@
+-- What a reading holds, in numbers.
+-- Assumes nothing.
+use Prim.Native.Nat.{ℕ}
+use mathlib.Core.Bool.{Bool, true, false}
+use mathlib.Core.List.{List, [], _∷_}
+use Rattle.err.specs.Outcome.{Place, none, between, notRaw, raw, Values, truth, digits, ends, value, decoded, Outcome, refused, accepted}
+use Rattle.err.specs.Reading.{hashesOf}
+use Rattle.err.specs.declared.StringLit.{StringLit}
+
+-- 01: "A reading holds kind, start of suffix": the kind of an accepted one, else 0; serves contracts between functions
+abbrev pub kindIn : Outcome → ℕ
+kindIn (refused n p) = 0
+kindIn (accepted k e vs) = k
+
+-- and the start of its suffix, likewise
+abbrev pub suffixIn : Outcome → ℕ
+suffixIn (refused n p) = 0
+suffixIn (accepted k e vs) = e
+
+-- 1 and the two offsets of a span, or three zeros where there is none
+abbrev pub placeNumbers : Place → List ℕ
+placeNumbers none = 0 ∷ 0 ∷ 0 ∷ []
+placeNumbers (between a e) = 1 ∷ a ∷ e ∷ []
+
+-- a truth is 1 or 0
+abbrev pub truthNumber : Bool → ℕ
+truthNumber true = 1
+truthNumber false = 0
+
+-- a reading's values as three numbers, zeros behind them: truth; base and both ends of the digits; the three ends; the value; whether raw, hashes,
+-- length of the value
+abbrev pub valueNumbers : Values → List ℕ
+valueNumbers (truth b) = truthNumber b ∷ 0 ∷ 0 ∷ []
+valueNumbers (digits base a e) = base ∷ a ∷ e ∷ []
+valueNumbers (ends i f e) = i ∷ f ∷ e ∷ []
+valueNumbers (value v) = v ∷ 0 ∷ 0 ∷ []
+valueNumbers (decoded notRaw n) = 0 ∷ 0 ∷ n ∷ []
+valueNumbers (decoded (raw h) n) = 1 ∷ h ∷ n ∷ []
+
+-- a reading as five numbers: kind, start of suffix and values; or 0, the refusal number and the span
+abbrev pub readingNumbers : Outcome → List ℕ
+readingNumbers (refused n p) = 0 ∷ n ∷ placeNumbers p
+readingNumbers (accepted k e vs) = k ∷ e ∷ valueNumbers vs
+
+-- the same of a literal of a string's kind
+abbrev pub stringNumbers : ℕ → StringLit → List ℕ
+stringNumbers k l = k ∷ l .«start_suffix» ∷ valueNumbers (decoded (hashesOf (l .hashes)) (l .«value_len»))

@@ -1,0 +1,108 @@
+// Answers in numbers, as they go out to C: a refusal's code, and what a reading holds.
+use err::FloatLit;
+use err::Hashes;
+use err::IntegerLit;
+use err::ParseErrorKind;
+use err::Reading;
+use err::Span;
+use err::StringLit;
+ghost use mathlib.Core.Path.{_≡_};
+ghost use Prim.Native.Nat.{_+_};
+ghost use mathlib.Core.List.{_∷_};
+ghost use Rattle.err.specs.Numbers.{numberOf};
+ghost use Rattle.err.specs.Reading.{placeOf, outcomeOf};
+ghost use Rattle.numbers.specs.Numbers.{kindIn, suffixIn, placeNumbers, truthNumber, stringNumbers, readingNumbers};
+
+// 100,000 plus the refusal number.
+pub fn refusal(kind: ParseErrorKind) -> usize
+    ensures { λ r. ⌜ r ≡ 100000 + numberOf kind ⌝ }
+{
+    100000 + err::number(kind) as usize
+}
+
+// The kind of an accepted reading; 0 of a refused one.
+pub fn kind_of(found: Reading) -> u8
+    ensures { λ r. ⌜ r ≡ kindIn (outcomeOf found) ⌝ }
+{
+    match found {
+        Reading::Refused(_, _) => 0,
+        Reading::Bool(_) => 1,
+        Reading::Integer(_) => 2,
+        Reading::Float(_) => 3,
+        Reading::Char(_) => 4,
+        Reading::String(_) => 5,
+        Reading::Byte(_) => 6,
+        Reading::ByteString(_) => 7,
+        Reading::CString(_) => 8,
+    }
+}
+
+// Where the suffix of an accepted reading starts; 0 of a refused one.
+pub fn suffix_start(found: Reading) -> usize
+    ensures { λ r. ⌜ r ≡ suffixIn (outcomeOf found) ⌝ }
+{
+    match found {
+        Reading::Refused(_, _) => 0,
+        Reading::Bool(lit) => lit.end,
+        Reading::Integer(lit) => lit.end_main_part,
+        Reading::Float(lit) => lit.end_number_part,
+        Reading::Char(lit) => lit.start_suffix,
+        Reading::String(lit) => lit.start_suffix,
+        Reading::Byte(lit) => lit.start_suffix,
+        Reading::ByteString(lit) => lit.start_suffix,
+        Reading::CString(lit) => lit.start_suffix,
+    }
+}
+
+// A refusal in five numbers: 0, its number and its span.
+pub fn span_numbers(number: u64, span: Span) -> [u64; 5]
+    ensures { λ r. ⌜ r ≡ 0 ∷ number ∷ placeNumbers (placeOf span) ⌝ }
+{
+    match span {
+        Span::Nowhere => [0, number, 0, 0, 0],
+        Span::Between(a, e) => [0, number, 1, a as u64, e as u64],
+    }
+}
+
+// A literal of kind 5, 7 or 8 in five numbers.
+pub fn string_numbers(kind: u64, lit: StringLit) -> [u64; 5]
+    ensures { λ r. ⌜ r ≡ stringNumbers kind lit ⌝ }
+{
+    let hashes = lit.hashes;
+    let n = lit.value_len as u64;
+    let start = lit.start_suffix as u64;
+    match hashes {
+        Hashes::NotRaw => [kind, start, 0, 0, n],
+        Hashes::Raw(h) => [kind, start, 1, h as u64, n],
+    }
+}
+
+// 1 or 0.
+pub fn truth(value: bool) -> u64
+    ensures { λ r. ⌜ r ≡ truthNumber value ⌝ }
+{
+    if value { 1 } else { 0 }
+}
+
+// An integer in five numbers.
+pub fn integer_numbers(lit: IntegerLit) -> [u64; 5]
+    ensures { λ r. ⌜ r ≡ readingNumbers (outcomeOf (Reading.Integer lit)) ⌝ }
+{
+    let base = lit.base;
+    let end = lit.end_main_part as u64;
+    [2, end, base.value() as u64, lit.start_main_part as u64, end]
+}
+
+// A float in five numbers.
+pub fn float_numbers(lit: FloatLit) -> [u64; 5]
+    ensures { λ r. ⌜ r ≡ readingNumbers (outcomeOf (Reading.Float lit)) ⌝ }
+{
+    let end = lit.end_number_part as u64;
+    [
+        3,
+        end,
+        lit.end_integer_part as u64,
+        lit.end_fractional_part as u64,
+        end,
+    ]
+}

@@ -1,0 +1,77 @@
+-- `validation::is_ascii` meets its contract.
+-- Assumes nothing.
+use mathlib.Core.Path.{_≡_, ap, _∙_}
+use Prim.Native.Nat.{ℕ}
+use native.Mathlib.Omega.{arith}
+use lib.Dec.{ltb}
+use Rattle.block_validation.specs.HighBytes.{highestFrom}
+use Rattle.validation.proofs.Windows.{highest-ends}
+use borrow.Author.Needs.{needs}
+use Rattle.validation.proofs.is_ascii.Statement.{statement}
+use Rattle.validation.proofs.is_ascii.Tie as tie
+
+sub-last : tie.Need-sub-last
+sub-last c = search needs
+
+highest-eight-requires : tie.Need-highest-eight-requires
+highest-eight-requires c κs = search needs
+
+highest-eight-requires-2 : tie.Need-highest-eight-requires-2
+highest-eight-requires-2 c κs = search needs
+
+larger-requires : tie.Need-larger-requires
+larger-requires c κs = search needs
+
+returns : tie.Need-returns
+returns c =
+    let b = c .before .before .before in
+    let t = b .before .before .args .text .now in
+    let e : c .larger .result ≡ highestFrom 0 t =
+    c .larger .ensures ∙ rw (c .before .before .highest-eight .ensures, c .before .highest-eight2 .ensures) (highest-ends t 8 (b .before .before .pre) (omega (arith, b .if1 .taken)))
+    in
+    ap (λ (n : ℕ). ltb n 128) e
+
+sub-last-2 : tie.Need-sub-last-2
+sub-last-2 c = search needs
+
+highest-sixteen-requires : tie.Need-highest-sixteen-requires
+highest-sixteen-requires c κs = search needs
+
+highest-sixteen-requires-2 : tie.Need-highest-sixteen-requires-2
+highest-sixteen-requires-2 c κs = search needs
+
+larger-requires-2 : tie.Need-larger-requires-2
+larger-requires-2 c κs = search needs
+
+returns-2 : tie.Need-returns-2
+returns-2 c =
+    let b = c .before .before .before in
+    let t = b .before .before .before .args .text .now in
+    let e : c .larger2 .result ≡ highestFrom 0 t =
+    c .larger2 .ensures ∙ rw (c .before .before .highest-sixteen .ensures, c .before .highest-sixteen2 .ensures) (highest-ends t 16 (omega (arith, b .before .if1 .left)) (omega (arith, b .if2 .taken)))
+    in
+    ap (λ (n : ℕ). ltb n 128) e
+
+highest-requires : tie.Need-highest-requires
+highest-requires c κs = search needs
+
+returns-3 : tie.Need-returns-3
+returns-3 c =
+    ap (λ (n : ℕ). ltb n 128) (c .highest .ensures)
+
+pub is-ascii-spec : {M : Type 1} → statement M
+is-ascii-spec =
+    tie.close
+    (tie.spec
+    sub-last
+    highest-eight-requires
+    highest-eight-requires-2
+    larger-requires
+    returns
+    sub-last-2
+    highest-sixteen-requires
+    highest-sixteen-requires-2
+    larger-requires-2
+    returns-2
+    highest-requires
+    returns-3)
