@@ -50,7 +50,11 @@ enum keybasket_type {
     KEYBASKET_I64 = 10
 };
 
-/* Why a text is refused: all refusal numbers. 42 never comes from settling: it takes no code. 46 and 47 come from nothing else. */
+/*
+ * Why a text is refused: all refusal numbers. The first of 42, 43, 44, a reading's own (1 to 41), 45 or 46, 47, 48 is told. 42 never comes from
+ * settling: it takes no code. 46 and 47 come from nothing else. Spans are told by keybasket_read: for a value by entry 2, for decoding by the same
+ * entry, for settling by entry 0. From 42 on there is none.
+ */
 enum keybasket_refusal {
     KEYBASKET_EMPTY = 1,
     KEYBASKET_UNEXPECTED_CHAR = 2,

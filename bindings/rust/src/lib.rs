@@ -248,7 +248,8 @@ pub fn decode<'a>(kind: Quoted, text: &[u8], out: &'a mut [u8]) -> Result<&'a [u
 /// Writes the settled form of any literal to the front of `out`, and hands it out. The bytes behind it keep what they held; where the text is
 /// refused, all of them do.
 ///
-/// Two texts are the same in kind, exact value and suffix exactly when both have forms and the forms are equal.
+/// Two texts that both have forms are the same in kind, exact value and suffix exactly when the forms are equal. Of a text without one this says
+/// nothing.
 pub fn settle<'a>(text: &[u8], out: &'a mut [u8]) -> Result<&'a [u8], Refusal> {
     // SAFETY: both pointers and lengths are those of slices, as in `decode`, and out is lent to this call alone.
     let answer =

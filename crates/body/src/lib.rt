@@ -281,6 +281,7 @@ fn check_end(text: &[u8], lit: StringLit) -> Quoted
     ensures { λ r. ⌜ quoteOf r ≡ suffixed (now (text .entry)) (hashesOf (lit .hashes)) (lit .«start_suffix») (lit .«value_len») ⌝ }
 {
     let start = lit.start_suffix;
+    // most literals have no suffix
     if start == text.len() {
         return Quoted::Lit(lit);
     }

@@ -19,7 +19,7 @@ falseText = 102 ∷ 97 ∷ 108 ∷ 115 ∷ 101 ∷ []
 unfoldable pub isBool : List ℕ → Bool
 isBool s = same s trueText || same s falseText
 
--- 01: "Exactly `true` or `false`; entry 1 on no bytes gives 3. The start of suffix is the text's end."
+-- 01, Bools: "Exactly `true` or `false` ..; entry 1 on no bytes gives 3. The start of suffix is the text's end."
 unfoldable pub boolRead : List ℕ → Outcome
 boolRead s =
     cond (same s falseText) (accepted 1 (length s) (truth false))

@@ -25,6 +25,7 @@ fn suffixed(text: &[u8], start: usize, value: u32, q: Quote) -> Single
     requires { ⌜ start ≤ length (now text) ⌝ }
     ensures { λ r. ⌜ singleOf q r ≡ suffixedAt q (now (text .entry)) start value ⌝ }
 {
+    // most literals have no suffix
     if start == text.len() {
         return Single::Value(value, start);
     }

@@ -5,6 +5,7 @@ use mathlib.Core.Bool.{Bool, true, false, cond}
 use mathlib.Core.Logic.{inl, inr}
 use mathlib.Core.List.{List, [], _∷_}
 use Prim.Native.Nat.{ℕ, _≤_, _<_}
+use native.Mathlib.Omega.{arith}
 use borrow.Author.Tests.{leb-true, le-leb, lt-leb}
 use lib.Dec.{eqb, leb}
 use lib.ListN.{length}
@@ -19,7 +20,7 @@ use Rattle.string.specs.declared.Kind.the-variants.{Text, Bytes, C}
 use Rattle.string.proofs.Refused.{refused-in}
 use Rattle.string.proofs.Values.{value-short}
 use Rattle.input.specs.Checks.{textFault}
-use Rattle.input.proofs.Checks.{long-fault, utf8-fault, no-fault}
+use Rattle.input.proofs.Checks.{long-fault, utf8-fault, no-fault, fault-passed}
 use Rattle.literal.specs.Decodes.{checkedDecode, checkedBuffer, kindCoded, decodeBy, bufferBy, decodeAt, bufferAt}
 use Rattle.literal.specs.declared.KindFound.{KindFound}
 use Rattle.literal.specs.declared.KindFound.the-variants as found
@@ -46,9 +47,9 @@ uncoded code n =
 
 -- ---- every call is answered
 
-decode-answered : (k : Kind) (have : ℕ) (s : List ℕ) → DecodeAnswered (length s) have (stringDecoded k s have)
+decode-answered : (k : Kind) (have : ℕ) (s : List ℕ) → length s ≤ 65536 → DecodeAnswered (length s) have (stringDecoded k s have)
 unfolding stringDecoded
-decode-answered k have s = go (stringRead k s) refl
+decode-answered k have s l = go (stringRead k s) refl
   where
     v : List ℕ
     v = stringValue k s
@@ -56,13 +57,13 @@ decode-answered k have s = go (stringRead k s) refl
     go : (o : Outcome) → stringRead k s ≡ o → DecodeAnswered (length s) have (ofReading o v have)
     go (refused n p) h = inl (refused-in k s h)
     go (accepted kind e vs) h =
-        cond-in (DecodeAnswered (length s) have) (leb (length v) have) (λ t. (leb-true (length v) have t, value-short k s h))
+        cond-in (DecodeAnswered (length s) have) (leb (length v) have) (λ t. (leb-true (length v) have t, value-short k s h, omega (arith, value-short k s h)))
         (λ t. inr (inr (inr (inr (inl refl))), refl))
 
 checked-answered : (k : Kind) (have : ℕ) (s : List ℕ) → DecodeAnswered (length s) have (checkedDecode k s have)
 unfolding checkedDecode
 checked-answered k have s =
-    cond-eq (DecodeAnswered (length s) have) (textFault s) 0 (λ z. decode-answered k have s)
+    cond-eq (DecodeAnswered (length s) have) (textFault s) 0 (λ z. decode-answered k have s (fault-passed s z .0))
     (λ z. or-42 (length s) (43 ∷ 44 ∷ 48 ∷ []) (textFault s) none (text-refused (length s) s (48 ∷ []) z))
 
 answered : (code have : ℕ) (s : List ℕ) → DecodeAnswered (length s) have (decodeAt code s have)

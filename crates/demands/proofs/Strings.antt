@@ -6,11 +6,9 @@ use mathlib.Core.Logic.{_⊎_, inl, inr}
 use mathlib.Core.List.{List, [], _∷_, _++_, append-assoc}
 use native.Mathlib.Omega.{arith}
 use lib.ListN.{length}
-use borrow.Author.Tests.{le-leb}
 use Rattle.err.specs.Outcome.{Values, accepted, Rawness, notRaw, raw, decoded}
 use Rattle.buffer.specs.Buffer.{over}
 use Rattle.utf8.specs.Utf8.{Utf8}
-use Rattle.utf8.proofs.Valid.{isUtf8-right}
 use Rattle.utf8.proofs.Aligned.{aligned}
 use Rattle.body.specs.Pieces.{RawContent}
 use Rattle.string.specs.String.{kindOf, allowedIn, stringRead, stringValue}
@@ -22,6 +20,7 @@ use Rattle.string.proofs.Sound.{sound}
 use Rattle.string.proofs.Complete.{complete}
 use Rattle.string.proofs.Decodes.{decode-written}
 use Rattle.input.specs.Checks.{textFault}
+use Rattle.input.proofs.Checks.{no-fault}
 use Rattle.literal.specs.Decodes.{checkedDecode, checkedBuffer, decodeAt, bufferAt}
 use Rattle.literal.specs.declared.KindFound.the-variants as found
 use Rattle.grammar.specs.Notation.{times}
@@ -102,8 +101,7 @@ module _ (k : Kind) {s v x : List ℕ} where
 -- ---- what decoding gives
 
 fine-fault : (s : List ℕ) → Readable s → textFault s ≡ 0
-unfolding textFault
-fine-fault s f = rw (le-leb (length s) 65536 (f .short), isUtf8-right s .1 (f .utf8))
+fine-fault s f = no-fault s (f .short) (f .utf8)
 
 module _ (k : Kind) (s : List ℕ) {kind e : ℕ} {vs : Values} (f : Readable s) (g : stringRead k s ≡ accepted kind e vs) where
   counted : (buf : List ℕ) → length (stringValue k s) ≤ length buf → decodeAt (kindOf k) s (length buf) ≡ written (length (stringValue k s))

@@ -114,9 +114,9 @@ pub record ValueAnswers : Type 0 where
 abbrev pub Decodes : ℕ → Type 0
 Decodes code = (k : Kind) × (code ≡ kindOf k)
 
--- the answers of decoding into a buffer of `have` bytes: a count that fits and is at most the text's, so at most 65,536; or a refusal
+-- the answers of decoding into a buffer of `have` bytes: a count that fits, is at most the text's, and at most 65,536; or a refusal
 abbrev pub DecodeAnswered : ℕ → ℕ → Decode → Type 0
-DecodeAnswered m have (written n) = (n ≤ have) × (n ≤ m)
+DecodeAnswered m have (written n) = (n ≤ have) × (n ≤ m) × (n ≤ 65536)
 DecodeAnswered m have (withheld n p) = Numbered m (42 ∷ 43 ∷ 44 ∷ 48 ∷ []) n p
 
 -- decoding likewise: 48 exactly where the buffer is shorter than the value, after everything that a reading can refuse

@@ -11,7 +11,7 @@ use Prim.Native.Nat.{ℕ, _+_, _≤_}
 use mathlib.Core.Path.{_≡_}
 use mathlib.Core.Logic.{_⊎_, _↔_}
 use mathlib.Core.List.{List}
-use lib.ListN.{length, take, drop}
+use lib.ListN.{length, drop}
 use Rattle.err.specs.Outcome.{Values, accepted, Rawness, truth, digits, ends, value, decoded}
 use Rattle.buffer.specs.Buffer.{over}
 use Rattle.boolean.specs.Bool.{boolRead}

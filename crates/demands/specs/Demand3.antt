@@ -80,7 +80,7 @@ pub record InOrder : Type 0 where
   pub measure : (s buf f : List ℕ) (k : ℕ) → Given s buf k f → measureAt s ≡ formed k (length f)
   pub no-measure : (s : List ℕ) (n : ℕ) (p : Place) → measureAt s ≡ withheld n p → (have : ℕ) → settleAt s have ≡ withheld n p
 
--- what sheets and stores stand on: a form is its own form, and holds no LF
+-- a form is its own form, and holds no LF, so that it is one line
 pub record FormLaws : Type 0 where
   pub own : (s buf f buf′ : List ℕ) (k : ℕ) → Given s buf k f → (length buf′ < length f → ⊥) → Given f buf′ k f
   pub no-lf : (s buf f : List ℕ) (k : ℕ) → Given s buf k f → All (except 10) f

@@ -82,7 +82,7 @@ fn is_nothing(entry: u64, text: &[u8]) -> bool
 }
 
 // The reading of a text by entry code, as five numbers: kind, start of suffix and values; or 0, the refusal number and the span. A bool and no
-// bytes are told at once, so that they pay for no call.
+// bytes are told at once, so that they pay for no call of `read`.
 #[no_mangle]
 pub extern "C" fn keybasket_read(entry: u64, text: &[u8], answer: &mut [u64; 5])
     ensures { λ r. ⌜ now (answer .exit) ≡ readingNumbers (readAt entry (now (text .entry))) ⌝ }
@@ -108,6 +108,7 @@ pub extern "C" fn keybasket_read(entry: u64, text: &[u8], answer: &mut [u64; 5])
             err::number(kind) as u64,
             span,
         ),
+        // cannot arise: a bool was told before
         Reading::Bool(l) => *answer = [1, l.end as u64, numbers::truth(l.value), 0, 0],
         Reading::Integer(l) => *answer = numbers::integer_numbers(l),
         Reading::Float(l) => *answer = numbers::float_numbers(l),

@@ -18,11 +18,11 @@ abbrev pub Ends : ℕ → Place → Type 0
 Ends m none = Unit {0}
 Ends m (between a e) = (a ≤ e) × (e ≤ m)
 
--- a refusal of a text of m bytes: one of litrs's numbers, and a span inside the text
+-- a refusal of a text of m bytes: one of litrs's numbers, and a span inside the text or none
 abbrev pub RefusedIn : ℕ → ℕ → Place → Type 0
 RefusedIn m n p = (1 ≤ n) × (n ≤ 41) × Ends m p
 
--- 01, Quoted kinds: "hashes (or not raw)"
+-- 01, Kept from litrs: "hashes (or not raw)"
 pub data Rawness : Type 0 where
   notRaw : Rawness
   raw : ℕ → Rawness

@@ -17,7 +17,7 @@ fn byte_code(n: u64, b: u8) -> u64
 }
 
 // An escape by `x` as one number, or 0 where it is refused.
-pub fn x_code(s: &[u8], k: Allowed) -> u64
+fn x_code(s: &[u8], k: Allowed) -> u64
     ensures { λ r. ⌜ r ≡ escapeCode (xEscape k (now (s .entry))) ⌝ }
 {
     if s.len() < 4 {
@@ -64,7 +64,7 @@ fn scalar_code(v: u32, n: usize, k: Allowed) -> u64
 }
 
 // The same by `u`.
-pub fn u_code(s: &[u8], k: Allowed) -> u64
+fn u_code(s: &[u8], k: Allowed) -> u64
     requires { ⌜ length (now s) < 4294967296 ⌝ }
     ensures { λ r. ⌜ r ≡ escapeCode (uEscape k (now (s .entry))) ⌝ }
 {

@@ -34,6 +34,7 @@ fn after_number(text: &[u8], lit: FloatLit) -> Parsed
     ensures { λ r. ⌜ parsedOf r ≡ afterNumber (now (text .entry)) (lit .«end_integer_part») (lit .«end_fractional_part») (lit .«end_number_part») ⌝ }
 {
     let end = lit.end_number_part;
+    // most literals have no suffix
     if end == text.len() {
         return not_integer(lit);
     }

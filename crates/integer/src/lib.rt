@@ -84,6 +84,7 @@ fn check_end(text: &[u8], lit: IntegerLit) -> Parsed
     ensures { λ r. ⌜ parsedOf r ≡ afterSuffix (now (text .entry)) (lit .«end_main_part») (parsedOf (Parsed.Lit lit)) ⌝ }
 {
     let end = lit.end_main_part;
+    // most literals have no suffix
     if end == text.len() {
         return Parsed::Lit(lit);
     }

@@ -1,5 +1,5 @@
 // The calls that a user makes, of any code and any bytes. A refusal is the first of 42, 43, 44, litrs's own, 45 or 48.
-// The last clause of each public function's contract says that the text at exit is what it was at entry.
+// The last clause of each user's call's contract says that the text at exit is what it was at entry.
 use err::ParseErrorKind;
 use err::Reading;
 use err::Span;
@@ -72,6 +72,7 @@ fn entry(code: u64, text: &[u8]) -> Reading
 {
     let e = entries::chosen(code, text);
     match e {
+        // no bool: that was told before
         1 | 9 => err::perr_nowhere(ParseErrorKind::InvalidLiteral),
         2 => integer::parse(text),
         3 => float::parse(text),

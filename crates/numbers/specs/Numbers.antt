@@ -44,4 +44,4 @@ readingNumbers (accepted k e vs) = k ∷ e ∷ valueNumbers vs
 
 -- the same of a literal of a string's kind
 abbrev pub stringNumbers : ℕ → StringLit → List ℕ
-stringNumbers k l = k ∷ l .«start_suffix» ∷ valueNumbers (decoded (hashesOf (l .hashes)) (l .«value_len»))
+stringNumbers k l = readingNumbers (accepted k (l .«start_suffix») (decoded (hashesOf (l .hashes)) (l .«value_len»)))
