@@ -1,4 +1,4 @@
--- The highest byte of a part of a text. It serves contracts between functions.
+-- The highest byte of a part of a text. For contracts between functions, no sentence of a document.
 -- Assumes nothing.
 use mathlib.Core.List.{List}
 use Prim.Native.Nat.{ℕ}

@@ -138,6 +138,7 @@ fn highest_four(s: &[u8], at: usize) -> u8
     block_validation::larger(highest_two(s, at), highest_two(s, at + 2))
 }
 
+// The same of eight bytes.
 fn highest_eight(s: &[u8], at: usize) -> u8
     requires { ⌜ at + 8 ≤ length (now s) ⌝ }
     ensures { λ r. ⌜ r ≡ highestIn at 8 (now (s .entry)) ⌝ }
@@ -145,6 +146,7 @@ fn highest_eight(s: &[u8], at: usize) -> u8
     block_validation::larger(highest_four(s, at), highest_four(s, at + 4))
 }
 
+// The same of sixteen bytes.
 fn highest_sixteen(s: &[u8], at: usize) -> u8
     requires { ⌜ at + 16 ≤ length (now s) ⌝ }
     ensures { λ r. ⌜ r ≡ highestIn at 16 (now (s .entry)) ⌝ }
@@ -152,7 +154,8 @@ fn highest_sixteen(s: &[u8], at: usize) -> u8
     block_validation::larger(highest_eight(s, at), highest_eight(s, at + 8))
 }
 
-// Whether a text of eight bytes or more is ASCII. Up to 32 bytes, the first and the last eight or sixteen are all there are.
+// Whether a text of eight bytes or more is ASCII. Up to 32 bytes, the first and the last eight or sixteen are all there are. The last are named
+// first: the other way round the compiler makes two vectors and takes both apart.
 fn is_ascii(text: &[u8]) -> bool
     requires { ⌜ 8 ≤ length (now text) ⌝ }
     ensures { λ r. ⌜ r ≡ ltb (highestFrom 0 (now (text .entry))) 128 ⌝ }
