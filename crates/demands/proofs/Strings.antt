@@ -22,7 +22,6 @@ use Rattle.string.proofs.Decodes.{decode-written}
 use Rattle.input.specs.Checks.{textFault}
 use Rattle.input.proofs.Checks.{no-fault}
 use Rattle.literal.specs.Decodes.{checkedDecode, checkedBuffer, decodeAt, bufferAt}
-use Rattle.literal.specs.declared.KindFound.the-variants as found
 use Rattle.grammar.specs.Notation.{times}
 use Rattle.grammar.specs.Quoted.{Quoted, Raw, closing, STRING-LITERAL, RAW-STRING-LITERAL, BYTE-STRING-LITERAL, RAW-BYTE-STRING-LITERAL, C-STRING-LITERAL, RAW-C-STRING-LITERAL}
 use Rattle.grammar.specs.Meaning.{Worth, Means, is-string, is-raw-string, is-byte-string, is-raw-byte-string, is-c-string, is-raw-c-string}
