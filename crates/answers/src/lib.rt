@@ -4,7 +4,6 @@ use err::Reading;
 use err::Span;
 use integer_value::IntegerValue;
 use libc::STDOUT_FILENO;
-use settle::Settled;
 use string::Decoded;
 ghost use mathlib.Core.Path.{_≡_};
 ghost use Prim.Native.Nat.{_≤_};
@@ -96,7 +95,7 @@ fn add_kept(line: &mut [u8], at: usize, out: &[u8], from: usize) -> usize
 }
 
 // The line of a refusal after which the whole lent buffer should be as it was.
-fn answer_refused(line: &mut [u8], kind: ParseErrorKind, span: Span, out: &[u8])
+pub fn answer_refused(line: &mut [u8], kind: ParseErrorKind, span: Span, out: &[u8])
     ensures { λ r. ⌜ length (now (line .exit)) ≡ length (now (line .entry)) ⌝ }
 {
     let at = lines::add_refusal(line, kind, span);
@@ -105,7 +104,7 @@ fn answer_refused(line: &mut [u8], kind: ParseErrorKind, span: Span, out: &[u8])
 }
 
 // The rest of a line: the first bytes of a lent buffer, and whether those behind them are as they were.
-fn answer_front(line: &mut [u8], at: usize, out: &[u8], n: usize)
+pub fn answer_front(line: &mut [u8], at: usize, out: &[u8], n: usize)
     requires { ⌜ at ≤ length (now line) ⌝ }
     ensures { λ r. ⌜ length (now (line .exit)) ≡ length (now (line .entry)) ⌝ }
 {
@@ -128,19 +127,6 @@ pub fn answer_decoded(line: &mut [u8], d: Decoded, out: &[u8])
         Decoded::Refused(kind, span) => answer_refused(line, kind, span, out),
         Decoded::Written(n) => {
             let at = lines::add_ok(line, n as u64);
-            answer_front(line, at, out, n);
-        }
-    }
-}
-
-// The line of a settling into a buffer that was lent.
-pub fn answer_settled(line: &mut [u8], s: Settled, out: &[u8])
-    ensures { λ r. ⌜ length (now (line .exit)) ≡ length (now (line .entry)) ⌝ }
-{
-    match s {
-        Settled::Refused(kind, span) => answer_refused(line, kind, span, out),
-        Settled::Formed(kind, n) => {
-            let at = lines::add_kind(line, kind as u64, n);
             answer_front(line, at, out, n);
         }
     }

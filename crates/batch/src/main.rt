@@ -1,5 +1,6 @@
 // Answers a batch of records from standard input (docs/BATCH.md): one line for each.
 use libc::STDIN_FILENO;
+use settle::Settled;
 ghost use mathlib.Core.Path.{_≡_};
 ghost use Prim.Native.Nat.{_+_, _*_, _≤_};
 ghost use lib.ListN.{length, getD};
@@ -13,13 +14,26 @@ fn decoding(line: &mut [u8], code: u8, text: &[u8], out: &mut [u8])
     answers::answer_decoded(line, d, out);
 }
 
+// The line of a settling into a buffer that was lent.
+fn answer_settled(line: &mut [u8], s: Settled, out: &[u8])
+    ensures { λ r. ⌜ length (now (line .exit)) ≡ length (now (line .entry)) ⌝ }
+{
+    match s {
+        Settled::Refused(kind, span) => answers::answer_refused(line, kind, span, out),
+        Settled::Formed(kind, n) => {
+            let at = lines::add_kind(line, kind as u64, n);
+            answers::answer_front(line, at, out, n);
+        }
+    }
+}
+
 // Settling, into a lent buffer that was filled.
 fn settling(line: &mut [u8], text: &[u8], out: &mut [u8])
     ensures { λ r. ⌜ (length (now (line .exit)) ≡ length (now (line .entry))) × (length (now (out .exit)) ≡ length (now (out .entry))) ⌝ }
 {
     answers::fill(out);
     let s = settle::settle(text, out);
-    answers::answer_settled(line, s, out);
+    answer_settled(line, s, out);
 }
 
 // One record's line. The buffer is as long as the record lends it.

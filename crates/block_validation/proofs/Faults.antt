@@ -5,7 +5,7 @@ use mathlib.Core.Path.{_≡_, refl, sym, ap, _∙_}
 use mathlib.Core.Logic.{inl, inr}
 use mathlib.Core.Bool.{Bool, true, false, cond, not, _||_, Bool·beq, xor, or-true}
 use mathlib.Core.List.{List, [], _∷_}
-use Prim.Native.Nat.{ℕ, zero, suc, _+_, _-_, _/_, _≤_, _<_}
+use Prim.Native.Nat.{ℕ, zero, suc, _+_, _-_, _/_, _≤_, _<_, max}
 use native.Mathlib.Nat.{add-zero}
 use native.Mathlib.Numerals.{add-one}
 use native.Mathlib.Omega.{arith}
@@ -13,18 +13,16 @@ use lib.Dec.{ltb, leb, eqb}
 use lib.ListN.{length, getD, take, drop, length-drop, drop-of-length-le}
 use lib.Seq.{drop-length, drop-cons, drop-drop, getD-drop}
 use borrow.Author.Tests.{le-leb, lt-leb, lt-ltb, le-ltb, eq-eqb, ne-eqb, eqb-true, eqb-false}
-use Rattle.scan.proofs.Cases.{cond-eq, cond-lt, by-lt}
+use Rattle.scan.proofs.Cases.{cond-eq, by-lt}
 use Rattle.utf8.specs.Valid.{isUtf8}
 use Rattle.utf8.specs.Cut.{tail}
-use Rattle.block_validation.specs.HighBytes.{largerOf}
 use Rattle.block_validation.specs.Faults.{leastBehind, mostBehind, wantsTail, never, outside, breaks, mask, faultOf, worstFrom, clean, worstBehind, cleanBehind}
-use Rattle.block_validation.proofs.HighBytes.{larger-left, larger-right}
 use Rattle.utf8.proofs.Valid.{isUtf8-front}
 use Rattle.block_validation.proofs.Clean.{by-test, never-low, never-high, never-not, clean-utf8}
 
 -- ---- one byte: the code's tests
 
-mask-or : (p q : Bool) → largerOf (mask p) (mask q) ≡ mask (p || q)
+mask-or : (p q : Bool) → max (mask p) (mask q) ≡ mask (p || q)
 unfolding mask
 mask-or true true = refl
 mask-or true false = refl
@@ -32,15 +30,15 @@ mask-or false true = refl
 mask-or false false = refl
 
 -- the larger of two is above where one of them is
-above-or : (m n : ℕ) → ltb 127 (largerOf m n) ≡ ltb 127 m || ltb 127 n
-above-or m n = by-lt 127 m (λ h. rw (lt-ltb 127 m h) (lt-ltb 127 (largerOf m n) (omega (arith, larger-left m n)))) λ h.
-    by-lt 127 n (λ g. rw (le-ltb 127 m h, lt-ltb 127 n g) (lt-ltb 127 (largerOf m n) (omega (arith, larger-right m n)))) λ g.
-    rw (le-ltb 127 m h, le-ltb 127 n g) (cond-lt (λ (k : ℕ). ltb 127 k ≡ false) m n (λ l. le-ltb 127 n g) (λ l. le-ltb 127 m h))
+above-or : (m n : ℕ) → ltb 127 (max m n) ≡ ltb 127 m || ltb 127 n
+above-or m n = by-lt 127 m (λ h. rw (lt-ltb 127 m h) (lt-ltb 127 (max m n) (omega arith))) λ h.
+    by-lt 127 n (λ g. rw (le-ltb 127 m h, lt-ltb 127 n g) (lt-ltb 127 (max m n) (omega arith))) λ g.
+    rw (le-ltb 127 m h, le-ltb 127 n g) (le-ltb 127 (max m n) (omega arith))
 
 over-is : (n x : ℕ) → ltb 127 (x - n) ≡ leb (n + 128) x
 over-is n x = by-lt x (n + 128) (λ h. rw (lt-leb (n + 128) x h) (le-ltb 127 (x - n) (omega arith))) (λ h. rw (le-leb (n + 128) x h) (lt-ltb 127 (x - n) (omega arith)))
 
-wanted-is : (c b a : ℕ) → ltb 127 (largerOf (a - 0x40) (largerOf (b - 0x60) (c - 0x70))) ≡ wantsTail c b a
+wanted-is : (c b a : ℕ) → ltb 127 (max (a - 0x40) (max (b - 0x60) (c - 0x70))) ≡ wantsTail c b a
 unfolding wantsTail
 wanted-is c b a = rw (above-or, above-or, over-is 0x40 a, over-is 0x60 b, over-is 0x70 c)
 
@@ -106,9 +104,9 @@ outside-is a x h =
 
 -- THE LAW: the tests together say whether a rule is broken.
 pub fault-is : (c b a x : ℕ) → x ≤ 0xFF
-    → largerOf (mask (not (Bool·beq (ltb 127 (largerOf (a - 0x40) (largerOf (b - 0x60) (c - 0x70)))) (tail x))))
-    (largerOf (largerOf (mask (eqb (x / 2) 0x60)) (mask (ltb 0xF4 x)))
-    (largerOf (mask (eqb a (cond (ltb x 0xA0) 0xE0 0xED))) (mask (eqb a (cond (ltb x 0x90) 0xF0 0xF4))))) ≡ faultOf c b a x
+    → max (mask (not (Bool·beq (ltb 127 (max (a - 0x40) (max (b - 0x60) (c - 0x70)))) (tail x))))
+    (max (max (mask (eqb (x / 2) 0x60)) (mask (ltb 0xF4 x)))
+    (max (mask (eqb a (cond (ltb x 0xA0) 0xE0 0xED))) (mask (eqb a (cond (ltb x 0x90) 0xF0 0xF4))))) ≡ faultOf c b a x
 unfolding breaks xor
 fault-is c b a x h = rw (wanted-is c b a, mask-or (eqb (x / 2) 0x60) (ltb 0xF4 x), mask-or (eqb a (cond (ltb x 0xA0) 0xE0 0xED)) (eqb a (cond (ltb x 0x90) 0xF0 0xF4)), never-is x, outside-is a x h, mask-or, mask-or)
 
@@ -116,7 +114,7 @@ fault-is c b a x h = rw (wanted-is c b a, mask-or (eqb (x / 2) 0x60) (ltb 0xF4 x
 
 pub worst-more : (m : ℕ) (s : List ℕ) (i : ℕ) → 3 ≤ i → i < length s
     → worstFrom m (getD s (i - 3) 0) (getD s (i - 2) 0) (getD s (i - 1) 0) (drop i s)
-    ≡ worstFrom (largerOf m (faultOf (getD s (i - 3) 0) (getD s (i - 2) 0) (getD s (i - 1) 0) (getD s i 0)))
+    ≡ worstFrom (max m (faultOf (getD s (i - 3) 0) (getD s (i - 2) 0) (getD s (i - 1) 0) (getD s i 0)))
     (getD s (i + 1 - 3) 0) (getD s (i + 1 - 2) 0) (getD s (i + 1 - 1) 0) (drop (i + 1) s)
 worst-more m s i g h =
     let e3 : i + 1 - 3 ≡ i - 2 = omega arith in
@@ -129,10 +127,10 @@ worst-end m c b a s i h = rw (drop-of-length-le s h)
 
 worst-start : (m c b a : ℕ) (s : List ℕ) → m ≤ worstFrom m c b a s
 worst-start m c b a [] = omega arith
-worst-start m c b a (x ∷ s) = omega (arith, larger-left m (faultOf c b a x), worst-start (largerOf m (faultOf c b a x)) b a x s)
+worst-start m c b a (x ∷ s) = omega (arith, worst-start (max m (faultOf c b a x)) b a x s)
 
 worst-none : (c b a x : ℕ) (s : List ℕ) → faultOf c b a x ≡ 0 → worstFrom 0 c b a (x ∷ s) ≡ worstFrom 0 b a x s
-worst-none c b a x s = ap (λ (f : ℕ). worstFrom (largerOf 0 f) b a x s)
+worst-none c b a x s = ap (λ (f : ℕ). worstFrom (max 0 f) b a x s)
 
 -- ---- a part of n bytes behind c, b, a: without fault it is passed, with one the text is refused
 
@@ -141,7 +139,7 @@ part-passed zero c b a r l h = refl
 part-passed (suc n) c b a [] l h = absurd (omega arith)
 part-passed (suc n) c b a (x ∷ r) l h =
     let f = faultOf c b a x in
-    let z : f ≡ 0 = omega (arith, larger-right 0 f, worst-start (largerOf 0 f) b a x (take n r)) in
+    let z : f ≡ 0 = omega (arith, worst-start (max 0 f) b a x (take n r)) in
     rw z (part-passed n b a x r (omega arith) (sym (worst-none c b a x (take n r) z) ∙ h))
 
 pub part-refused : (n c b a : ℕ) (r : List ℕ) → (worstFrom 0 c b a (take n r) ≡ 0 → ⊥) → clean c b a r ≡ false

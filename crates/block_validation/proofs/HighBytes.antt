@@ -4,37 +4,30 @@
 use mathlib.Core.Path.{_≡_, refl, sym}
 use mathlib.Core.Bool.{true, false}
 use mathlib.Core.List.{List, [], _∷_}
-use Prim.Native.Nat.{ℕ, zero, suc, _+_, _-_, _≤_, _<_}
+use Prim.Native.Nat.{ℕ, zero, suc, _+_, _-_, _≤_, _<_, max}
 use native.Mathlib.Numerals.{add-one}
 use native.Mathlib.Omega.{arith}
 use lib.ListN.{length, getD, take, drop, drop-of-length-le}
 use lib.Seq.{drop-cons}
 use borrow.Author.Tests.{ltb-true, lt-ltb, le-ltb}
 use Rattle.scan.specs.Run.{run, outs}
-use Rattle.scan.proofs.Cases.{cond-lt}
 use Rattle.scan.proofs.Runs.{run-each, run-part}
-use Rattle.block_validation.specs.HighBytes.{ascii, largerOf, highestFrom}
+use Rattle.block_validation.specs.HighBytes.{ascii, highestFrom}
 
-pub highest-more : (m : ℕ) (s : List ℕ) (i : ℕ) → i < length s → highestFrom m (drop i s) ≡ highestFrom (largerOf m (getD s i 0)) (drop (i + 1) s)
+pub highest-more : (m : ℕ) (s : List ℕ) (i : ℕ) → i < length s → highestFrom m (drop i s) ≡ highestFrom (max m (getD s i 0)) (drop (i + 1) s)
 highest-more m s i h = rw (drop-cons s i 0, add-one)
 
 pub highest-end : (m : ℕ) (s : List ℕ) (i : ℕ) → length s ≤ i → highestFrom m (drop i s) ≡ m
 highest-end m s i h = rw (drop-of-length-le s h)
 
-pub larger-left : (a b : ℕ) → a ≤ largerOf a b
-larger-left a b = cond-lt (λ (n : ℕ). a ≤ n) a b (λ h. omega arith) (λ h. omega arith)
-
-pub larger-right : (a b : ℕ) → b ≤ largerOf a b
-larger-right a b = cond-lt (λ (n : ℕ). b ≤ n) a b (λ h. omega arith) (λ h. omega arith)
-
 highest-start : (m : ℕ) (s : List ℕ) → m ≤ highestFrom m s
 highest-start m [] = omega arith
-highest-start m (b ∷ s) = omega (arith, larger-left m b, highest-start (largerOf m b) s)
+highest-start m (b ∷ s) = omega (arith, highest-start (max m b) s)
 
 pub highest-above : (m : ℕ) (s : List ℕ) (k : ℕ) → k < length s → getD s k 0 ≤ highestFrom m s
 highest-above m [] k h = absurd (omega arith)
-highest-above m (b ∷ s) zero h = omega (arith, larger-right m b, highest-start (largerOf m b) s)
-highest-above m (b ∷ s) (suc k) h = highest-above (largerOf m b) s k (omega arith)
+highest-above m (b ∷ s) zero h = omega (arith, highest-start (max m b) s)
+highest-above m (b ∷ s) (suc k) h = highest-above (max m b) s k (omega arith)
 
 -- ---- ASCII bytes
 
@@ -55,7 +48,7 @@ ascii-each s n e k h = ltb-true _ _ (run-each ascii s k (omega arith))
 highest-low : (m : ℕ) (s : List ℕ) → highestFrom m s < 128 → outs ascii s ≡ 0
 highest-low m [] h = refl
 highest-low m (b ∷ s) h =
-    rw (ascii-low b (omega (arith, larger-right m b, highest-start (largerOf m b) s))) (omega (arith, highest-low (largerOf m b) s h))
+    rw (ascii-low b (omega (arith, highest-start (max m b) s))) (omega (arith, highest-low (max m b) s h))
 
 -- a part from i to e whose highest byte is below 128 is passed at once
 pub ascii-part : (s : List ℕ) (i e : ℕ) → highestFrom 0 (take (e - i) (drop i s)) < 128 → i ≤ e → e ≤ length s

@@ -6,11 +6,10 @@
 -- Assumes nothing.
 use mathlib.Core.Bool.{Bool, false, cond, not, _||_, xor}
 use mathlib.Core.List.{List, [], _∷_}
-use Prim.Native.Nat.{ℕ}
+use Prim.Native.Nat.{ℕ, max}
 use lib.Dec.{ltb, leb, eqb}
 use lib.ListN.{getD, drop}
 use Rattle.utf8.specs.Cut.{tail}
-use Rattle.block_validation.specs.HighBytes.{largerOf}
 
 -- section 4: behind E0 stands A0 or above, behind F0 stands 90 or above
 unfoldable pub leastBehind : ℕ → ℕ
@@ -46,7 +45,7 @@ faultOf c b a x = mask (breaks c b a x)
 -- the highest of m and these numbers over the bytes behind c, b, a; from m = 0 it is 0 exactly where no byte is at fault
 abbrev pub worstFrom : ℕ → ℕ → ℕ → ℕ → List ℕ → ℕ
 worstFrom m c b a [] = m
-worstFrom m c b a (x ∷ s) = worstFrom (largerOf m (faultOf c b a x)) b a x s
+worstFrom m c b a (x ∷ s) = worstFrom (max m (faultOf c b a x)) b a x s
 
 -- no byte behind c, b, a is at fault, and at the end no tail is wanted
 abbrev pub clean : ℕ → ℕ → ℕ → List ℕ → Bool

@@ -1,18 +1,15 @@
 -- ASCII bytes and the highest byte of a text.
 -- Assumes nothing.
-use mathlib.Core.Bool.{Bool, cond}
+use mathlib.Core.Bool.{Bool}
 use mathlib.Core.List.{List, [], _∷_}
-use Prim.Native.Nat.{ℕ}
+use Prim.Native.Nat.{ℕ, max}
 use lib.Dec.{ltb}
 
 -- RFC 3629, section 3: a byte 0xxxxxxx is a character of its own, an ASCII one
 unfoldable pub ascii : ℕ → Bool
 ascii b = ltb b 128
 
--- the larger of two numbers, and the highest number of a list and m: where it is below 128, the list is ASCII
-abbrev pub largerOf : ℕ → ℕ → ℕ
-largerOf a b = cond (ltb a b) b a
-
+-- the highest number of a list and m: where it is below 128, the list is ASCII
 abbrev pub highestFrom : ℕ → List ℕ → ℕ
 highestFrom m [] = m
-highestFrom m (b ∷ s) = highestFrom (largerOf m b) s
+highestFrom m (b ∷ s) = highestFrom (max m b) s

@@ -6,7 +6,7 @@ ghost use lib.Dec.{ltb};
 ghost use lib.ListN.{length, take, drop};
 ghost use Rattle.scan.specs.Run.{run};
 ghost use Rattle.utf8.specs.Valid.{isUtf8};
-ghost use Rattle.block_validation.specs.HighBytes.{ascii, largerOf, highestFrom};
+ghost use Rattle.block_validation.specs.HighBytes.{ascii, highestFrom};
 ghost use Rattle.block_validation.specs.Faults.{faultOf, worstFrom, worstBehind, cleanBehind};
 ghost use Rattle.block_validation.specs.Faults as faults;
 
@@ -17,16 +17,10 @@ pub fn highest(s: &[u8]) -> u8
     let mut m: u8 = 0;
     let mut i = 0;
     while i < s.len() {
-        m = larger(m, s[i]);
+        m = scan::larger(m, s[i]);
         i += 1;
     }
     m
-}
-
-pub fn larger(a: u8, b: u8) -> u8
-    ensures { λ r. ⌜ r ≡ largerOf a b ⌝ }
-{
-    if a < b { b } else { a }
 }
 
 // Where the bytes below 128 end that start at an offset, byte by byte.
@@ -110,11 +104,11 @@ fn four_against(x: u8) -> u8
 fn fault(c: u8, b: u8, a: u8, x: u8) -> u8
     ensures { λ r. ⌜ r ≡ faultOf c b a x ⌝ }
 {
-    let wanted = larger(over(a, 0x40), larger(over(b, 0x60), over(c, 0x70)));
+    let wanted = scan::larger(over(a, 0x40), scan::larger(over(b, 0x60), over(c, 0x70)));
     let odd = mask((127 < wanted) != utf8::is_tail(x));
-    let never = larger(mask(x / 2 == 0x60), mask(0xF4 < x));
-    let outside = larger(mask(a == three_against(x)), mask(a == four_against(x)));
-    larger(odd, larger(never, outside))
+    let never = scan::larger(mask(x / 2 == 0x60), mask(0xF4 < x));
+    let outside = scan::larger(mask(a == three_against(x)), mask(a == four_against(x)));
+    scan::larger(odd, scan::larger(never, outside))
 }
 
 // 255 where a byte behind the first three breaks a rule, else 0.
@@ -124,7 +118,7 @@ fn worst_fault(s: &[u8]) -> u8
     let mut m: u8 = 0;
     let mut i = 3;
     while i < s.len() {
-        m = larger(m, fault(s[i - 3], s[i - 2], s[i - 1], s[i]));
+        m = scan::larger(m, fault(s[i - 3], s[i - 2], s[i - 1], s[i]));
         i += 1;
     }
     m

@@ -1,4 +1,5 @@
 // Quoted bodies: measured, and judged with the suffix behind them.
+use err::Checked;
 use err::Hashes;
 use err::ParseErrorKind;
 use err::Span;
@@ -7,7 +8,6 @@ use escape::Allowed;
 use escape::Escape;
 use escape::Unescaped;
 use parse::ClassSet;
-use suffix::Suffix;
 ghost use mathlib.Core.Path.{_≡_};
 ghost use Prim.Native.Nat.{_+_, _-_, _≤_, _<_};
 ghost use lib.ListN.{length, getD, drop};
@@ -236,9 +236,17 @@ fn measure(s: &[u8], k: Allowed) -> Measured
     requires { ⌜ length (now s) < 4294967296 ⌝ }
     ensures { λ r. ⌜ Measures (body k (now (s .entry))) r ⌝ }
 {
+    let mut i = plain_run::front_end(s, k);
+    // most bodies are such a run
+    if scan::byte_at(s, i) == b'"' {
+        return Measured {
+            at: i,
+            len: i,
+            end: Ending::Close,
+        };
+    }
     let last = utf8::last_len(s);
     let end = s.len() - last;
-    let mut i = plain_run::block_end(s, 0, k);
     let mut n = i;
     loop {
         let b = scan::byte_at(s, i);
@@ -286,7 +294,7 @@ fn check_end(text: &[u8], lit: StringLit) -> Quoted
         return Quoted::Lit(lit);
     }
     let checked = suffix::check_suffix(&text[start..]);
-    let Suffix::Bad(kind) = checked else {
+    let Checked::Bad(kind) = checked else {
         return Quoted::Lit(lit);
     };
     Quoted::Refused(kind, Span::Between(start, start + 1))

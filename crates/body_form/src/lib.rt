@@ -267,7 +267,7 @@ fn put_piece(out: &mut [u8], s: &[u8], at: usize, end: usize, k: Allowed, style:
     if x != 0 {
         return Stride {
             next: at + 4,
-            value: put_value(out, escape_code::code_value(x), style),
+            value: quoting::put_form(out, escape_code::code_byte(x), style),
         };
     }
     // what is left is by `u`, or `\0`, or refused

@@ -1,4 +1,5 @@
 // Char and byte literals: one character or byte between single quotes.
+use err::Checked;
 use err::ParseErrorKind;
 use err::Reading;
 use err::Span;
@@ -6,7 +7,6 @@ use escape::Escape;
 use escape::Unescaped;
 use single_quote::Inner;
 use single_quote::Quote;
-use suffix::Suffix;
 ghost use mathlib.Core.Path.{_≡_};
 ghost use Prim.Native.Nat.{_≤_, _<_};
 ghost use lib.ListN.{length};
@@ -30,7 +30,7 @@ fn suffixed(text: &[u8], start: usize, value: u32, q: Quote) -> Single
         return Single::Value(value, start);
     }
     let checked = suffix::check_suffix(&text[start..]);
-    let Suffix::Bad(kind) = checked else {
+    let Checked::Bad(kind) = checked else {
         return Single::Value(value, start);
     };
     Single::Refused(kind, Span::Between(start, start + 1))

@@ -19,7 +19,6 @@ use Rattle.string.specs.declared.Kind.the-variants.{Text, Bytes, C}
 use Rattle.string.proofs.Sound.{sound}
 use Rattle.string.proofs.Complete.{complete}
 use Rattle.string.proofs.Decodes.{decode-written}
-use Rattle.input.specs.Checks.{textFault}
 use Rattle.input.proofs.Checks.{no-fault}
 use Rattle.literal.specs.Decodes.{checkedDecode, checkedBuffer, decodeAt, bufferAt}
 use Rattle.grammar.specs.Notation.{times}
@@ -99,17 +98,14 @@ module _ (k : Kind) {s v x : List ℕ} where
 
 -- ---- what decoding gives
 
-fine-fault : (s : List ℕ) → Readable s → textFault s ≡ 0
-fine-fault s f = no-fault s (f .short) (f .utf8)
-
 module _ (k : Kind) (s : List ℕ) {kind e : ℕ} {vs : Values} (f : Readable s) (g : stringRead k s ≡ accepted kind e vs) where
   counted : (buf : List ℕ) → length (stringValue k s) ≤ length buf → decodeAt (kindOf k) s (length buf) ≡ written (length (stringValue k s))
   unfolding decodeAt checkedDecode
-  counted buf room = rw (coded k, fine-fault s f) (sym (decode-written k s buf (sym g) room .0))
+  counted buf room = rw (coded k, no-fault s (f .short) (f .utf8)) (sym (decode-written k s buf (sym g) room .0))
 
   left : (buf : List ℕ) → length (stringValue k s) ≤ length buf → bufferAt (kindOf k) s buf ≡ over (stringValue k s) buf
   unfolding bufferAt checkedBuffer
-  left buf room = rw (coded k, fine-fault s f) (sym (decode-written k s buf (sym g) room .1))
+  left buf room = rw (coded k, no-fault s (f .short) (f .utf8)) (sym (decode-written k s buf (sym g) room .1))
 
 -- ---- what is read is a literal
 

@@ -1,3 +1,4 @@
 pub mod Outcome
 pub mod Numbers
 pub mod Reading
+pub mod Checked

@@ -64,6 +64,12 @@ pub enum ParseErrorKind {
     OutTooSmall,
 }
 
+// What a check finds: nothing, or why the text is refused.
+pub enum Checked {
+    Good,
+    Bad(ParseErrorKind),
+}
+
 pub enum IntegerBase {
     Binary,
     Octal,

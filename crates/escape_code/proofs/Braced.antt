@@ -12,7 +12,8 @@ use lib.ListN.{length, getD, take, drop, length-drop, drop-of-length-le}
 use lib.Seq.{drop-cons, length-take-le}
 use Rattle.scan.specs.Run.{run}
 use Rattle.scan.specs.Sets.{except}
-use Rattle.scan.proofs.Cases.{cond-in, cond-eq, cond-lt}
+use Rattle.scan.proofs.Bytes.{byte-inside}
+use Rattle.scan.proofs.Cases.{cond-in, cond-eq, cond-lt, by-lt}
 use Rattle.scan.proofs.Runs.{run-le}
 use Rattle.parse.specs.Class.{classOf}
 use Rattle.escape.specs.Allows.{unicode}
@@ -120,3 +121,16 @@ module _ (k : Allowed) where
 
             pub other : (getD s i 0 ≡ 95 → ⊥) → 0 ≡ digitsCode i n v (drop i s)
             other e = rw (drop-cons s i 0, le-ltb _ _ l, ne-eqb _ _ f, ne-eqb _ _ g, ne-eqb _ _ e)
+
+  -- ---- two digits
+
+  pub two-code : (s : List ℕ) → unicode k ≡ true → getD s 2 0 ≡ 123 → getD s 5 0 ≡ 125 → classOf (getD s 3 0) < 16 → classOf (getD s 4 0) < 16
+      → escapeCode (uScalar k 6 (16 * classOf (getD s 3 0) + classOf (getD s 4 0))) ≡ escapeCode (uEscape k s)
+  two-code s u e f a b =
+      let l = byte-inside s 5 125 f (omega arith) in
+      let high = by-lt (classOf (getD s 5 0)) 16 (λ h. absurd (not-brace _ h f)) (λ h. h) in
+      ap (λ (v : ℕ). escapeCode (uScalar k 6 v)) (omega arith)
+      ∙ brace s 5 2 (16 * (16 * 0 + classOf (getD s 3 0)) + classOf (getD s 4 0)) l high (λ x. omega arith) f
+      ∙ digit s 4 1 _ (omega arith) b (λ x. omega arith)
+      ∙ digit s 3 0 0 (omega arith) a (λ x. omega arith)
+      ∙ digits-code s u e

@@ -5,8 +5,8 @@ ghost use mathlib.Core.Path.{_≡_};
 ghost use Prim.Native.Nat.{_≤_, _<_};
 ghost use lib.ListN.{length};
 ghost use Rattle.escape.specs.Escape.{xEscape, uScalar, uEscape, escapeOf};
-ghost use Rattle.escape_code.specs.Code.{pieceCode, escapeCode, codedLen, codedValue};
-ghost use Rattle.escape_code.specs.At.{letterAt, xAt, uAt};
+ghost use Rattle.escape_code.specs.Code.{pieceCode, escapeCode, codedLen, codedValue, OfByte};
+ghost use Rattle.escape_code.specs.At.{letterAt, xAt, uAt, twoAt};
 
 // A byte that n bytes stand for, as one number.
 fn byte_code(n: u64, b: u8) -> u64
@@ -150,6 +150,14 @@ pub fn code_value(c: u64) -> Unescaped
     Unescaped::Unicode(v - 257)
 }
 
+// The byte that a coded piece stands for, where it is one.
+pub fn code_byte(c: u64) -> u8
+    requires { ⌜ OfByte c ⌝ }
+    ensures { λ r. ⌜ codedValue c ≡ Unescaped.Byte r ⌝ }
+{
+    (c % 4294967296 - 1) as u8
+}
+
 // ---- behind the backslash at an offset
 
 // The value of an escape of one letter, behind the backslash at an offset and before `end`; 0 where there is none.
@@ -179,7 +187,35 @@ pub fn x_at(s: &[u8], at: usize, end: usize, k: Allowed) -> u64
     0
 }
 
-// The same by `u`.
+// The code of an escape by `u` with two digits, which most have; 0 where another stands there, or it is refused.
+fn two_digits(s: &[u8], at: usize, end: usize, k: Allowed) -> u64
+    requires { ⌜ (at ≤ end) × (end ≤ length (now s)) ⌝ }
+    ensures { λ r. ⌜ r ≡ twoAt k (now (s .entry)) at end ⌝ }
+{
+    if !k.unicode() {
+        return 0;
+    }
+    if end - at < 6 {
+        return 0;
+    }
+    if s[at + 2] != b'{' {
+        return 0;
+    }
+    if s[at + 5] != b'}' {
+        return 0;
+    }
+    let a = parse::class_of(s[at + 3]);
+    if 15 < a {
+        return 0;
+    }
+    let b = parse::class_of(s[at + 4]);
+    if 15 < b {
+        return 0;
+    }
+    scalar_code((16 * a + b) as u32, 6, k)
+}
+
+// The code of an escape by `u`; 0 where there is none.
 pub fn u_at(s: &[u8], at: usize, end: usize, k: Allowed) -> u64
     requires { ⌜ (at < length (now s)) × ((length (now s) < 4294967296) × (end ≤ length (now s))) ⌝ }
     ensures { λ r. ⌜ r ≡ uAt k (now (s .entry)) at end ⌝ }
@@ -189,6 +225,10 @@ pub fn u_at(s: &[u8], at: usize, end: usize, k: Allowed) -> u64
         return 0;
     }
     if s[next] == b'u' {
+        let c = two_digits(s, at, end, k);
+        if c != 0 {
+            return c;
+        }
         return u_code(&s[at..end], k);
     }
     0

@@ -1,11 +1,11 @@
 // Float literals: integer part, fraction, exponent and suffix.
+use err::Checked;
 use err::FloatLit;
 use err::ParseErrorKind;
 use err::Reading;
 use err::Span;
 use scan::Byte;
 use scan::ByteSet;
-use suffix::Suffix;
 ghost use mathlib.Core.Path.{_≡_};
 ghost use Prim.Native.Nat.{_≤_, _<_};
 ghost use lib.ListN.{length};
@@ -39,7 +39,7 @@ fn after_number(text: &[u8], lit: FloatLit) -> Parsed
         return not_integer(lit);
     }
     let checked = suffix::check_suffix(&text[end..]);
-    let Suffix::Bad(kind) = checked else {
+    let Checked::Bad(kind) = checked else {
         return not_integer(lit);
     };
     Parsed::Refused(kind, Span::Between(end, text.len()))

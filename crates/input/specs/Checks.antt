@@ -5,14 +5,7 @@ use mathlib.Core.Bool.{cond}
 use mathlib.Core.List.{List}
 use lib.Dec.{leb}
 use lib.ListN.{length}
-use Rattle.err.specs.Numbers.{numberOf}
 use Rattle.utf8.specs.Valid.{isUtf8}
-use Rattle.input.specs.declared.Checked.{Checked}
-use Rattle.input.specs.declared.Checked.the-variants.{Good, Bad}
-
-abbrev pub faultOf : Checked → ℕ
-faultOf Good = 0
-faultOf (Bad k) = numberOf k
 
 -- 01, Order: 43 (over 65,536 bytes), then 44 (not UTF-8)
 unfoldable pub textFault : List ℕ → ℕ

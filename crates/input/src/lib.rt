@@ -1,17 +1,13 @@
 // What is checked of a text before it is read.
+use err::Checked;
 use err::ParseErrorKind;
 ghost use mathlib.Core.Path.{_≡_};
-ghost use Rattle.input.specs.Checks.{faultOf, textFault};
-
-// What is wrong with a text before it is read.
-pub enum Checked {
-    Good,
-    Bad(ParseErrorKind),
-}
+ghost use Rattle.err.specs.Checked.{checkedOf};
+ghost use Rattle.input.specs.Checks.{textFault};
 
 // At most 65,536 bytes, and UTF-8.
 pub fn check_text(text: &[u8]) -> Checked
-    ensures { λ r. ⌜ faultOf r ≡ textFault (now (text .entry)) ⌝ }
+    ensures { λ r. ⌜ checkedOf r ≡ textFault (now (text .entry)) ⌝ }
 {
     if 65536 < text.len() {
         return Checked::Bad(ParseErrorKind::TextTooLong);

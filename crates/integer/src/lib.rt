@@ -1,4 +1,5 @@
 // Integer literals: their base and digits, and their suffix.
+use err::Checked;
 use err::IntegerBase;
 use err::IntegerLit;
 use err::ParseErrorKind;
@@ -6,7 +7,6 @@ use err::Reading;
 use err::Span;
 use scan::Byte;
 use scan::ByteSet;
-use suffix::Suffix;
 ghost use mathlib.Core.Path.{_≡_};
 ghost use Prim.Native.Nat.{_≤_};
 ghost use lib.ListN.{length};
@@ -89,7 +89,7 @@ fn check_end(text: &[u8], lit: IntegerLit) -> Parsed
         return Parsed::Lit(lit);
     }
     let checked = suffix::check_suffix(&text[end..]);
-    let Suffix::Bad(kind) = checked else {
+    let Checked::Bad(kind) = checked else {
         return Parsed::Lit(lit);
     };
     if parse::is_decimal(scan::byte_at(text, end)) {

@@ -1,9 +1,9 @@
 // The calls that a user makes, of any code and any bytes. A refusal is the first of 42, 43, 44, litrs's own, 45 or 48.
 // The last clause of each user's call's contract says that the text at exit is what it was at entry.
+use err::Checked;
 use err::ParseErrorKind;
 use err::Reading;
 use err::Span;
-use input::Checked;
 use integer_value::IntegerValue;
 use single_quote::Quote;
 use string::Decoded;

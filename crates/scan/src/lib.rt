@@ -1,7 +1,7 @@
 // Reading a byte or nothing, comparing two texts, tests as numbers, and counting loops over a set of bytes.
 ghost use mathlib.Core.Path.{_≡_};
 ghost use mathlib.Core.Bool.{cond};
-ghost use Prim.Native.Nat.{_+_, _-_, _≤_, min};
+ghost use Prim.Native.Nat.{_+_, _-_, _≤_, min, max};
 ghost use lib.ListN.{length, drop, getD};
 ghost use Rattle.scan.specs.Bit.{bit};
 ghost use Rattle.scan.specs.Byte.{byteOf};
@@ -50,6 +50,13 @@ pub fn smaller(a: u8, b: u8) -> u8
     ensures { λ r. ⌜ r ≡ min a b ⌝ }
 {
     if b < a { b } else { a }
+}
+
+// The larger of two numbers.
+pub fn larger(a: u8, b: u8) -> u8
+    ensures { λ r. ⌜ r ≡ max a b ⌝ }
+{
+    if a < b { b } else { a }
 }
 
 // An offset that is `most` bytes further, or the end where that is nearer.

@@ -5,16 +5,9 @@ use mathlib.Core.Bool.{Bool, cond, not, _&&_}
 use mathlib.Core.List.{List, [], _∷_}
 use lib.Dec.{eqb, ltb}
 use lib.ListN.{length}
-use Rattle.err.specs.Numbers.{numberOf}
 use Rattle.scan.specs.Run.{run}
 use Rattle.parse.specs.Class.{classOf}
 use Rattle.parse.specs.Sets.{suffixRest}
-use Rattle.suffix.specs.declared.Suffix.{Suffix}
-use Rattle.suffix.specs.declared.Suffix.the-variants.{Good, Bad}
-
-abbrev pub faultOf : Suffix → ℕ
-faultOf Good = 0
-faultOf (Bad k) = numberOf k
 
 -- an ASCII letter or `_`, or a byte above 127
 unfoldable pub suffixStart : ℕ → Bool

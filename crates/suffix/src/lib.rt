@@ -1,19 +1,15 @@
 // The check of a suffix.
+use err::Checked;
 use err::ParseErrorKind;
 use parse::ClassSet;
 ghost use mathlib.Core.Path.{_≡_};
 ghost use mathlib.Core.Bool.{cond};
 ghost use Prim.Native.Nat.{_≤_};
 ghost use lib.ListN.{length};
+ghost use Rattle.err.specs.Checked.{checkedOf};
 ghost use Rattle.scan.specs.Run.{run, outs};
 ghost use Rattle.parse.specs.Sets.{suffixRest};
-ghost use Rattle.suffix.specs.Suffix.{suffixFault, suffixStart, faultOf};
-
-// What a check of a suffix finds.
-pub enum Suffix {
-    Good,
-    Bad(ParseErrorKind),
-}
+ghost use Rattle.suffix.specs.Suffix.{suffixFault, suffixStart};
 
 // A letter, `_` or a byte above 127.
 fn starts_suffix(b: u8) -> bool
@@ -95,25 +91,25 @@ fn rest_len(s: &[u8]) -> usize
     i
 }
 
-pub fn check_suffix(s: &[u8]) -> Suffix
-    ensures { λ r. ⌜ faultOf r ≡ suffixFault (now (s .entry)) ⌝ }
+pub fn check_suffix(s: &[u8]) -> Checked
+    ensures { λ r. ⌜ checkedOf r ≡ suffixFault (now (s .entry)) ⌝ }
 {
     if s.len() == 0 {
-        return Suffix::Good;
+        return Checked::Good;
     }
     let first = s[0];
     if first == b'_' {
         if s.len() == 1 {
-            return Suffix::Bad(ParseErrorKind::InvalidSuffix);
+            return Checked::Bad(ParseErrorKind::InvalidSuffix);
         }
     }
     if !starts_suffix(first) {
-        return Suffix::Bad(ParseErrorKind::UnexpectedChar);
+        return Checked::Bad(ParseErrorKind::UnexpectedChar);
     }
     let rest = &s[1..];
     if rest_len(rest) == rest.len() {
-        Suffix::Good
+        Checked::Good
     } else {
-        Suffix::Bad(ParseErrorKind::InvalidSuffix)
+        Checked::Bad(ParseErrorKind::InvalidSuffix)
     }
 }

@@ -1,3 +1,4 @@
 pub mod Pairs
 pub mod Lead
 pub mod Windows
+pub mod Ends

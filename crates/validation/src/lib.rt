@@ -42,26 +42,20 @@ fn three_len(text: &[u8], at: usize, first: u8, second: u8) -> usize
     if has_tail(text, at + 2) { 3 } else { 0 }
 }
 
-// The same for a first byte F0 to FF.
+// The same for a first byte F0 to FF. The two bytes are tested as one number: from F090 to F48F.
 fn four_len(text: &[u8], at: usize, first: u8, second: u8) -> usize
     requires { ⌜ PairAt (now text) at first second × (0xF0 ≤ first) ⌝ }
     ensures { λ r. ⌜ r ≡ lenOf (decode (drop at (now (text .entry)))) ⌝ }
 {
-    if 0xF4 < first {
+    let pair = first as u32 * 256 + second as u32;
+    if pair < 0xF090 {
+        return 0;
+    }
+    if 0xF48F < pair {
         return 0;
     }
     if !utf8::is_tail(second) {
         return 0;
-    }
-    if first == 0xF0 {
-        if second < 0x90 {
-            return 0;
-        }
-    }
-    if first == 0xF4 {
-        if 0x8F < second {
-            return 0;
-        }
     }
     if !has_tail(text, at + 2) {
         return 0;
@@ -127,7 +121,7 @@ fn highest_two(s: &[u8], at: usize) -> u8
     requires { ⌜ at + 2 ≤ length (now s) ⌝ }
     ensures { λ r. ⌜ r ≡ highestIn at 2 (now (s .entry)) ⌝ }
 {
-    block_validation::larger(s[at], s[at + 1])
+    scan::larger(s[at], s[at + 1])
 }
 
 // The highest of four bytes. Of such pairs of pairs the compiler makes one vector.
@@ -135,7 +129,7 @@ fn highest_four(s: &[u8], at: usize) -> u8
     requires { ⌜ at + 4 ≤ length (now s) ⌝ }
     ensures { λ r. ⌜ r ≡ highestIn at 4 (now (s .entry)) ⌝ }
 {
-    block_validation::larger(highest_two(s, at), highest_two(s, at + 2))
+    scan::larger(highest_two(s, at), highest_two(s, at + 2))
 }
 
 // The same of eight bytes.
@@ -143,7 +137,7 @@ fn highest_eight(s: &[u8], at: usize) -> u8
     requires { ⌜ at + 8 ≤ length (now s) ⌝ }
     ensures { λ r. ⌜ r ≡ highestIn at 8 (now (s .entry)) ⌝ }
 {
-    block_validation::larger(highest_four(s, at), highest_four(s, at + 4))
+    scan::larger(highest_four(s, at), highest_four(s, at + 4))
 }
 
 // The same of sixteen bytes.
@@ -151,7 +145,7 @@ fn highest_sixteen(s: &[u8], at: usize) -> u8
     requires { ⌜ at + 16 ≤ length (now s) ⌝ }
     ensures { λ r. ⌜ r ≡ highestIn at 16 (now (s .entry)) ⌝ }
 {
-    block_validation::larger(highest_eight(s, at), highest_eight(s, at + 8))
+    scan::larger(highest_eight(s, at), highest_eight(s, at + 8))
 }
 
 // Whether a text of eight bytes or more is ASCII. Up to 32 bytes, the first and the last eight or sixteen are all there are. The last are named
@@ -162,27 +156,36 @@ fn is_ascii(text: &[u8]) -> bool
 {
     if text.len() < 16 {
         let last = text.len() - 8;
-        return block_validation::larger(highest_eight(text, last), highest_eight(text, 0)) < 128;
+        return scan::larger(highest_eight(text, last), highest_eight(text, 0)) < 128;
     }
     if text.len() < 33 {
         let last = text.len() - 16;
-        return block_validation::larger(highest_sixteen(text, last), highest_sixteen(text, 0))
-            < 128;
+        return scan::larger(highest_sixteen(text, last), highest_sixteen(text, 0)) < 128;
     }
     block_validation::highest(text) < 128
 }
 
-// Whether a short text is UTF-8, character by character where it is not ASCII.
+// Whether a short text is UTF-8, character by character where it is not ASCII. Where the last eight bytes are ASCII, only what stands before
+// them is gone through; an ASCII byte is stepped over without a call.
 fn short_utf8(text: &[u8]) -> bool
     ensures { λ r. ⌜ r ≡ isUtf8 (now (text .entry)) ⌝ }
 {
+    let mut stop = text.len();
     if 8 <= text.len() {
         if is_ascii(text) {
             return true;
         }
+        let last = text.len() - 8;
+        if highest_eight(text, last) < 128 {
+            stop = last;
+        }
     }
     let mut at = ascii_lead(text);
-    while at < text.len() {
+    while at < stop {
+        if text[at] < 0x80 {
+            at += 1;
+            continue;
+        }
         let n = valid_len(text, at);
         if n == 0 {
             return false;

@@ -5,14 +5,15 @@ use native.Mathlib.Omega.{arith}
 use lib.ListN.{drop}
 use Rattle.err.proofs.Positive.{number-positive}
 use Rattle.scan.proofs.Parts.{part-to-end}
-use Rattle.suffix.specs.Suffix.{faultOf, suffixFault}
+use Rattle.err.specs.Checked.{checkedOf}
+use Rattle.suffix.specs.Suffix.{suffixFault}
 use Rattle.suffix.proofs.Suffixes.{no-suffix}
 use Rattle.body.proofs.Strings as strings
 use borrow.Author.Needs.{needs}
 use Rattle.body.proofs.check_end.Statement.{statement}
 use Rattle.body.proofs.check_end.Tie as tie
 
-found : (c : tie.After-check-suffix) → faultOf (c .check-suffix .result) ≡ suffixFault (drop (c .before .before .before .before .args .lit .«start_suffix») (c .before .before .before .before .args .text .now))
+found : (c : tie.After-check-suffix) → checkedOf (c .check-suffix .result) ≡ suffixFault (drop (c .before .before .before .before .args .lit .«start_suffix») (c .before .before .before .before .args .text .now))
 found c = c .check-suffix .ensures ∙ rw part-to-end
 
 returns : tie.Need-returns
@@ -37,14 +38,14 @@ enum-told : tie.Need-enum-told
 enum-told c = search needs
 
 returns-2 : tie.Need-returns-2
-returns-2 c = strings.suffix-good _ _ _ _ _ (found (c .before .before)) (ap faultOf (c .enum-told .given .1))
+returns-2 c = strings.suffix-good _ _ _ _ _ (found (c .before .before)) (ap checkedOf (c .enum-told .given .1))
 
 add-t6 : tie.Need-add-t6
 add-t6 c = search needs
 
 returns-3 : tie.Need-returns-3
 returns-3 c =
-    strings.suffix-bad _ _ _ _ _ (sym (ap faultOf (c .before .checked .given .1)) ∙ found (c .before .before .before))
+    strings.suffix-bad _ _ _ _ _ (sym (ap checkedOf (c .before .checked .given .1)) ∙ found (c .before .before .before))
     (λ e. omega (arith, number-positive (c .before .checked .given .0 .0)))
 
 pub check-end-spec : {M : Type 1} → statement M

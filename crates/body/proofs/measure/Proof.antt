@@ -22,14 +22,14 @@ use Rattle.body.proofs.measure.Tie as tie
 
 -- what is passed stands for v, of which n is the length
 abbrev Inv-loop : tie.InvT-loop
-Inv-loop s k last end i₀ n₀ i n = (v : List ℕ) × bodies.Passed (stepOf k) s i v × (n ≡ length v)
+Inv-loop s k i₀ last end n₀ i n = (v : List ℕ) × bodies.Passed (stepOf k) s i v × (n ≡ length v)
 
 abbrev μ-loop : tie.MeasureT-loop
-μ-loop s k last end i₀ n₀ i n = length s - i
+μ-loop s k i₀ last end n₀ i n = length s - i
 
 -- the text and its kind
 abbrev entry : tie.At-loop Inv-loop μ-loop → tie.Start Inv-loop μ-loop
-entry a = a .before .before .before .before
+entry a = a .before .before .before .before .before .before
 
 abbrev text : tie.At-loop Inv-loop μ-loop → List ℕ
 text a = entry a .args .s .now
@@ -39,29 +39,29 @@ kind a = entry a .args .k
 
 -- ---- a backslash
 
-abbrev turn : tie.Then2 Inv-loop μ-loop → tie.At-loop Inv-loop μ-loop
+abbrev turn : tie.Then3 Inv-loop μ-loop → tie.At-loop Inv-loop μ-loop
 turn c = c .before .before .before
 
-slash : (c : tie.Then2 Inv-loop μ-loop) → getD (text (turn c)) (turn c .loop .i) 0 ≡ 92
-slash c = sym (c .before .before .byte-at .ensures) ∙ c .if2 .taken
+slash : (c : tie.Then3 Inv-loop μ-loop) → getD (text (turn c)) (turn c .loop .i) 0 ≡ 92
+slash c = sym (c .before .before .byte-at2 .ensures) ∙ c .if3 .taken
 
-abbrev value : tie.Then2 Inv-loop μ-loop → List ℕ
+abbrev value : tie.Then3 Inv-loop μ-loop → List ℕ
 value c = valueIn (backslashOf (kind (turn c)) (drop (turn c .loop .i) (text (turn c))))
 
 -- its piece
-abbrev read : tie.Else3 Inv-loop μ-loop → tie.After-stride-at Inv-loop μ-loop
+abbrev read : tie.Else4 Inv-loop μ-loop → tie.After-stride-at Inv-loop μ-loop
 read c = c .before .before
 
-onward : (c : tie.Else3 Inv-loop μ-loop) →
+onward : (c : tie.Else4 Inv-loop μ-loop) →
     let t = read c .before in
     let a = turn t in
     (a .loop .i < read c .stride-at .result .next)
     × bodies.Passed (stepOf (kind a)) (text a) (read c .stride-at .result .next) (a .loop .inv .0 ++ value t)
 onward c =
     let b = read c in
-    strides.stride-more _ (turn (b .before) .loop .inv .1) (slash (b .before)) _ (b .stride-at .ensures .0) (c .if3 .left)
+    strides.stride-more _ (turn (b .before) .loop .inv .1) (slash (b .before)) _ (b .stride-at .ensures .0) (c .if4 .left)
 
-longer : (c : tie.Else3 Inv-loop μ-loop) →
+longer : (c : tie.Else4 Inv-loop μ-loop) →
     let t = read c .before in
     turn t .loop .n + read c .stride-at .result .value ≡ length (turn t .loop .inv .0 ++ value t)
 longer c =
@@ -84,44 +84,60 @@ run-counted : (b : tie.After-run-end Inv-loop μ-loop) → (run-from b .loop .i 
     × (length (so-far b) ≡ length (run-from b .loop .inv .0) + (b .run-end .result - run-from b .loop .i))
 run-counted b = runs.counts (plainByte (kind (run-from b))) _ _ (run-from b .loop .inv .0) _ (run-from b .loop .inv .1 .within) (b .run-end .ensures)
 
-last-len-requires : tie.Need-last-len-requires Inv-loop μ-loop
-last-len-requires c κs = search needs
+-- what the run at the front stands for
+abbrev front : tie.After-front-end Inv-loop μ-loop → List ℕ
+front b = let a = b .before .before .args in [] ++ take (b .front-end .result - 0) (drop 0 (a .s .now))
 
-sub-end : tie.Need-sub-end Inv-loop μ-loop
-sub-end c = omega (arith, c .last-len .ensures, last-le (c .before .before .args .s .now))
+fronted : (b : tie.After-front-end Inv-loop μ-loop) → let a = b .before .before .args in bodies.Passed (stepOf (a .k)) (a .s .now) (b .front-end .result) (front b)
+fronted b = let a = b .before .before .args in runs.passed-to (stepOf (a .k)) (plainByte (a .k)) (runs.plain-step _) _ (bodies.start _ _) (b .front-end .ensures ∙ omega arith)
 
-block-end-requires : tie.Need-block-end-requires Inv-loop μ-loop
-block-end-requires c κs = search needs
+front-counted : (b : tie.After-front-end Inv-loop μ-loop) → b .front-end .result ≡ length (front b)
+front-counted b =
+    let a = b .before .before .args in
+    omega (arith, runs.counts (plainByte (a .k)) (a .s .now) 0 [] (b .front-end .result) (omega arith) (b .front-end .ensures ∙ omega arith) .2)
 
-loop-holds : tie.Need-loop-holds Inv-loop μ-loop
-loop-holds c =
-    let a = c .before .before .before .args in
-    let n = runs.counts (plainByte (a .k)) (a .s .now) 0 [] (c .block-end .result) (omega arith) (c .block-end .ensures) in (
-      [] ++ take (c .block-end .result - 0) (drop 0 (a .s .now)),
-      runs.passed-to (stepOf (a .k)) (plainByte (a .k)) (runs.plain-step _) _ (bodies.start _ _) (c .block-end .ensures),
-      omega (arith, n .2),
-    )
+front-end-requires : tie.Need-front-end-requires Inv-loop μ-loop
+front-end-requires c κs = search needs
 
 byte-at-requires : tie.Need-byte-at-requires Inv-loop μ-loop
 byte-at-requires c κs = search needs
 
 returns : tie.Need-returns Inv-loop μ-loop
 returns c =
+    let b = c .before .before in
+    let t = b .before .before .args .s .now in
+    let e : getD t (b .front-end .result) 0 ≡ 34 = sym (c .before .byte-at .ensures) ∙ c .if1 .taken in
+    bodies.measures _ 1 (step-in _) (fronted b) _ (sym (steps.at-quote _ t _ (byte-inside t _ 34 e (omega arith)) e)) _ refl (front-counted b) refl
+
+last-len-requires : tie.Need-last-len-requires Inv-loop μ-loop
+last-len-requires c κs = search needs
+
+sub-end : tie.Need-sub-end Inv-loop μ-loop
+sub-end c = omega (arith, c .last-len .ensures, last-le (c .before .before .before .before .before .args .s .now))
+
+loop-holds : tie.Need-loop-holds Inv-loop μ-loop
+loop-holds c = let b = c .before .before .before in (front b, fronted b, front-counted b)
+
+byte-at-requires-2 : tie.Need-byte-at-requires-2 Inv-loop μ-loop
+byte-at-requires-2 c κs = search needs
+
+returns-2 : tie.Need-returns-2 Inv-loop μ-loop
+returns-2 c =
     let a = c .before .before in
-    let e : getD (text a) (a .loop .i) 0 ≡ 34 = sym (c .before .byte-at .ensures) ∙ c .if1 .taken in
+    let e : getD (text a) (a .loop .i) 0 ≡ 34 = sym (c .before .byte-at2 .ensures) ∙ c .if2 .taken in
     bodies.measures _ 1 (step-in _) (a .loop .inv .1) _ (sym (steps.at-quote _ (text a) _ (byte-inside (text a) _ 34 e (omega arith)) e)) _ refl (a .loop .inv .2) refl
 
 stride-at-requires : tie.Need-stride-at-requires Inv-loop μ-loop
-stride-at-requires c κs = let a = turn c in (slash c, (entry a .pre, rw (a .before .before .last-len .ensures)))
+stride-at-requires c κs = let a = turn c in (slash c, (entry a .pre, rw (a .before .last-len .ensures)))
 
 ending-at-requires : tie.Need-ending-at-requires Inv-loop μ-loop
 ending-at-requires c κs =
     let b = c .before .before in
     let a = turn (b .before) in
-    (a .before .before .last-len .ensures, strides.stride-stops _ (a .loop .inv .1) (slash (b .before)) _ (b .stride-at .ensures .0) (c .if3 .taken))
+    (a .before .last-len .ensures, strides.stride-stops _ (a .loop .inv .1) (slash (b .before)) _ (b .stride-at .ensures .0) (c .if4 .taken))
 
-returns-2 : tie.Need-returns-2 Inv-loop μ-loop
-returns-2 c =
+returns-3 : tie.Need-returns-3 Inv-loop μ-loop
+returns-3 c =
     let i = turn (c .before .before .before .before) .loop .inv in
     bodies.measures _ 1 (step-in _) (i .1) _ (sym (c .ending-at .ensures)) _ refl (i .2) refl
 
@@ -148,12 +164,12 @@ ending-at-requires-2 c κs =
     let b = c .before in
     let o = b .before in
     let a = run-from b in (
-      a .before .before .last-len .ensures,
-      strides.other-stops _ (text a) _ (λ e. o .if2 .left (o .before .before .byte-at .ensures ∙ e)) (sym (c .if4 .taken) ∙ b .run-end .ensures),
+      a .before .last-len .ensures,
+      strides.other-stops _ (text a) _ (λ e. o .if3 .left (o .before .before .byte-at2 .ensures ∙ e)) (sym (c .if5 .taken) ∙ b .run-end .ensures),
     )
 
-returns-3 : tie.Need-returns-3 Inv-loop μ-loop
-returns-3 c =
+returns-4 : tie.Need-returns-4 Inv-loop μ-loop
+returns-4 c =
     let i = run-from (c .before .before) .loop .inv in
     bodies.measures _ 1 (step-in _) (i .1) _ (sym (c .ending-at2 .ensures)) _ refl (i .2) refl
 
@@ -168,7 +184,7 @@ add-n-2 c =
     omega (arith, r .0, r .1, i .2, i .1 .short, entry (run-from b) .good)
 
 loop-less-2 : tie.Need-loop-less-2 Inv-loop μ-loop
-loop-less-2 c = let r = run-counted (c .before) in omega (arith, r .0, r .1, c .if4 .left)
+loop-less-2 c = let r = run-counted (c .before) in omega (arith, r .0, r .1, c .if5 .left)
 
 loop-again-2 : tie.Need-loop-again-2 Inv-loop μ-loop
 loop-again-2 c =
@@ -181,21 +197,23 @@ measure-spec =
     (tie.spec
     Inv-loop
     μ-loop
-    last-len-requires
-    sub-end
-    block-end-requires
-    loop-holds
+    front-end-requires
     byte-at-requires
     returns
+    last-len-requires
+    sub-end
+    loop-holds
+    byte-at-requires-2
+    returns-2
     stride-at-requires
     ending-at-requires
-    returns-2
+    returns-3
     add-n
     loop-less
     loop-again
     run-end-requires
     ending-at-requires-2
-    returns-3
+    returns-4
     sub-n
     add-n-2
     loop-less-2

@@ -8,6 +8,7 @@ use native.Mathlib.Omega.{arith}
 use lib.ListN.{length, drop}
 use Rattle.buffer.proofs.Laws.{nothing}
 use Rattle.escape_code.specs.Code.{codedLen}
+use Rattle.escape_code.proofs.At.{x-byte}
 use Rattle.body.specs.Step.{backslashOf}
 use Rattle.body.specs.Stride.{valueIn}
 use Rattle.body.proofs.Strides as strides
@@ -35,6 +36,13 @@ forms e v = styledForms (e .args .style .wide) (e .args .style .quote) v
 inside : (e : tie.Start) → e .args .at < length (e .args .s .now)
 inside e = strides.at-in (e .args .k) (e .args .s .now) (e .args .at) (e .pre .0)
 
+-- one byte as it stands in the form
+one-form : (e : tie.Start) {b : ℕ} →
+    let a = e .args in
+    b ∷ [] ≡ valueIn (backslashOf (a .k) (drop (a .at) (a .s .now)))
+    → styledForm (a .style .wide) (a .style .quote) b ≡ forms e (valueIn (backslashOf (a .k) (drop (a .at) (a .s .now))))
+one-form e is = sym (styles.forms-one _ _ _) ∙ ap (forms e) is
+
 -- the arms
 letter : (c : tie.Then1) →
     let a = at-letter (c .before) .args in
@@ -43,25 +51,19 @@ letter c =
     let e = at-letter (c .before) in
     strides.letter-arm _ _ _ (e .pre .0) _ (e .pre .1 .1) _ (c .before .letter-at .ensures) (c .if1 .taken)
 
-letter-form : (c : tie.Then1) →
-    let e = at-letter (c .before) in
-    let a = e .args in
-    styledForm (a .style .wide) (a .style .quote) (c .before .letter-at .result) ≡ forms e (valueIn (backslashOf (a .k) (drop (a .at) (a .s .now))))
-letter-form c =
-    let e = at-letter (c .before) in
-    sym (styles.forms-one _ _ _) ∙ ap (forms e) (letter c .value)
-
 break : (c : tie.Then2) →
     let a = at-break (c .before) .args in
     strides.Arm (a .k) (a .s .now) (a .at) (c .before .break-end .result) []
 break c = strides.break-arm _ _ _ (at-break (c .before) .pre .0) _ (c .before .break-end .ensures) (c .if2 .taken)
 
-by-x : (c : tie.Then3) →
-    let a = at-x (c .before) .args in
-    strides.Coded (a .k) (a .s .now) (a .at) (c .before .x-at .result) (a .at + 4)
+by-x : (c : tie.After-code-byte) →
+    let a = at-x (c .before .before .before) .args in
+    strides.Arm (a .k) (a .s .now) (a .at) (a .at + 4) (c .code-byte .result ∷ [])
 by-x c =
-    let e = at-x (c .before) in
-    strides.x-arm _ _ _ (e .pre .0) _ (e .pre .1 .1) _ (c .before .x-at .ensures) (c .if3 .taken) .0
+    let t = c .before .before in
+    let e = at-x (t .before) in
+    let h = strides.x-arm _ _ _ (e .pre .0) _ (e .pre .1 .1) _ (t .before .x-at .ensures) (t .if3 .taken) .0 in
+    record { next = h .arm .next; value = strides.coded-value h (sym (c .code-byte .ensures)) }
 
 none : (c : tie.Then4) →
     let a = at-code (c .before) .args in
@@ -80,7 +82,7 @@ add-t13 : tie.Need-add-t13
 add-t13 c = let e = at-letter (c .before) in omega (arith, inside e, e .pre .1 .0)
 
 put-form-requires : tie.Need-put-form-requires
-put-form-requires c κs = let t = c .before in omega (arith, ap length (letter-form t), at-letter (t .before) .pre .2)
+put-form-requires c κs = let e = at-letter (c .before .before) in omega (arith, ap length (one-form e (letter (c .before) .value)), e .pre .2)
 
 same-length : tie.Need-same-length
 same-length c = search needs
@@ -89,7 +91,7 @@ returns : tie.Need-returns
 returns c =
     let p = c .before .before in
     let t = p .before .before in
-    (letter t .next, strides.written-as (letter-form t) (p .put-form .ensures))
+    (letter t .next, strides.written-as (one-form (at-letter (t .before)) (letter t .value)) (p .put-form .ensures))
 
 break-end-requires : tie.Need-break-end-requires
 break-end-requires c κs = inside (at-letter (c .before))
@@ -103,14 +105,11 @@ x-at-requires c κs = let e = at-break (c .before) in (inside e, omega (arith, e
 add-t17 : tie.Need-add-t17
 add-t17 c = let e = at-x (c .before) in omega (arith, inside e, e .pre .1 .0)
 
-code-value-requires : tie.Need-code-value-requires
-code-value-requires c κs = search needs
+code-byte-requires : tie.Need-code-byte-requires
+code-byte-requires c κs = let t = c .before in x-byte _ _ _ _ _ (t .before .x-at .ensures) (t .if3 .taken)
 
-put-value-requires : tie.Need-put-value-requires
-put-value-requires c κs =
-    let t = c .before .before in
-    let e = at-x (t .before) in
-    strides.coded-fits (by-x t) (c .code-value .ensures) (λ (v : List ℕ). length (forms e v)) _ (e .pre .2)
+put-form-requires-2 : tie.Need-put-form-requires-2
+put-form-requires-2 c κs = let e = at-x (c .before .before .before) in omega (arith, ap length (one-form e (by-x c .value)), e .pre .2)
 
 same-length-2 : tie.Need-same-length-2
 same-length-2 c = search needs
@@ -118,9 +117,8 @@ same-length-2 c = search needs
 returns-3 : tie.Need-returns-3
 returns-3 c =
     let p = c .before .before in
-    let t = p .before .before .before in
-    let h = by-x t in
-    (h .arm .next, strides.written-as (ap (forms (at-x (t .before))) (strides.coded-value h (p .before .code-value .ensures))) (p .put-value .ensures))
+    let h = by-x (p .before) in
+    (h .next, strides.written-as (one-form (at-x (p .before .before .before .before)) (h .value)) (p .put-form2 .ensures))
 
 code-at-requires : tie.Need-code-at-requires
 code-at-requires c κs = let e = at-x (c .before) in (omega (arith, inside e), e .pre .1)
@@ -128,14 +126,14 @@ code-at-requires c κs = let e = at-x (c .before) in (omega (arith, inside e), e
 returns-4 : tie.Need-returns-4
 returns-4 c = let a = none c in (a .next, strides.written-as (ap (forms (at-code (c .before))) (a .value)) (nothing _))
 
-code-value-requires-2 : tie.Need-code-value-requires-2
-code-value-requires-2 c κs = search needs
+code-value-requires : tie.Need-code-value-requires
+code-value-requires c κs = search needs
 
-put-value-requires-2 : tie.Need-put-value-requires-2
-put-value-requires-2 c κs =
+put-value-requires : tie.Need-put-value-requires
+put-value-requires c κs =
     let t = c .before .before in
     let e = at-code (t .before) in
-    strides.coded-fits (coded t) (c .code-value2 .ensures) (λ (v : List ℕ). length (forms e v)) _ (e .pre .2)
+    strides.coded-fits (coded t) (c .code-value .ensures) (λ (v : List ℕ). length (forms e v)) _ (e .pre .2)
 
 code-len-requires : tie.Need-code-len-requires
 code-len-requires c κs = search needs
@@ -153,7 +151,7 @@ returns-5 c =
     let p = c .before .before .before in
     let t = p .before .before .before in
     let h = coded t in
-    (omega (arith, h .arm .next, c .code-len .ensures), strides.written-as (ap (forms (at-code (t .before))) (strides.coded-value h (p .before .code-value2 .ensures))) (p .put-value2 .ensures))
+    (omega (arith, h .arm .next, c .code-len .ensures), strides.written-as (ap (forms (at-code (t .before))) (strides.coded-value h (p .before .code-value .ensures))) (p .put-value .ensures))
 
 pub put-piece-spec : {M : Type 1} → statement M
 put-piece-spec =
@@ -168,14 +166,14 @@ put-piece-spec =
     returns-2
     x-at-requires
     add-t17
-    code-value-requires
-    put-value-requires
+    code-byte-requires
+    put-form-requires-2
     same-length-2
     returns-3
     code-at-requires
     returns-4
-    code-value-requires-2
-    put-value-requires-2
+    code-value-requires
+    put-value-requires
     code-len-requires
     add-t26
     same-length-3

@@ -7,7 +7,8 @@ use borrow.Author.Tests.{ne-eqb}
 use Rattle.err.specs.Numbers.{numberOf}
 use Rattle.err.proofs.Positive.{number-positive}
 use Rattle.scan.proofs.Parts.{part-to-end}
-use Rattle.suffix.specs.Suffix.{faultOf, suffixFault}
+use Rattle.err.specs.Checked.{checkedOf}
+use Rattle.suffix.specs.Suffix.{suffixFault}
 use Rattle.suffix.proofs.Suffixes.{no-suffix}
 use Rattle.character.specs.Single.{suffixedAt}
 use borrow.Author.Needs.{needs}
@@ -41,7 +42,7 @@ enum-told c = search needs
 -- the suffix's fault, as `check_suffix` found it
 fault : (c : tie.After-check-suffix) →
     let a = c .before .before .before .before .args in
-    faultOf (c .check-suffix .result) ≡ suffixFault (drop (a .start) (a .text .now))
+    checkedOf (c .check-suffix .result) ≡ suffixFault (drop (a .start) (a .text .now))
 fault c = c .check-suffix .ensures ∙ rw part-to-end
 
 returns-2 : tie.Need-returns-2

@@ -7,7 +7,8 @@ use borrow.Author.Tests.{ne-eqb}
 use Rattle.err.specs.Numbers.{numberOf}
 use Rattle.err.proofs.Positive.{number-positive}
 use Rattle.scan.proofs.Parts.{part-to-end}
-use Rattle.suffix.specs.Suffix.{faultOf, suffixFault}
+use Rattle.err.specs.Checked.{checkedOf}
+use Rattle.suffix.specs.Suffix.{suffixFault}
 use Rattle.suffix.proofs.Suffixes.{no-suffix}
 use Rattle.float.specs.Float.{afterNumber}
 use borrow.Author.Needs.{needs}
@@ -45,7 +46,7 @@ not-integer-requires-2 : tie.Need-not-integer-requires-2
 not-integer-requires-2 c κs = search needs
 
 -- the suffix's fault, as `check_suffix` found it
-fault : (c : tie.After-check-suffix) → faultOf (c .check-suffix .result) ≡ suffixFault (drop (c .before .before .before .before .args .lit .«end_number_part») (c .before .before .before .before .args .text .now))
+fault : (c : tie.After-check-suffix) → checkedOf (c .check-suffix .result) ≡ suffixFault (drop (c .before .before .before .before .args .lit .«end_number_part») (c .before .before .before .before .args .text .now))
 fault c = c .check-suffix .ensures ∙ rw part-to-end
 
 returns-2 : tie.Need-returns-2

@@ -6,7 +6,8 @@ use Rattle.err.specs.Numbers.{numberOf}
 use Rattle.err.proofs.Positive.{number-positive}
 use Rattle.scan.proofs.Parts.{part-to-end}
 use Rattle.parse.specs.Sets.{decDigit}
-use Rattle.suffix.specs.Suffix.{suffixFault, faultOf}
+use Rattle.err.specs.Checked.{checkedOf}
+use Rattle.suffix.specs.Suffix.{suffixFault}
 use Rattle.suffix.proofs.Suffixes.{no-suffix}
 use Rattle.integer.proofs.Suffixed.{after-good, after-digit, after-fault}
 use borrow.Author.Needs.{needs}
@@ -37,11 +38,11 @@ enum-told c = search needs
 -- the suffix's fault, as `check_suffix` found it
 fault : (c : tie.After-check-suffix) →
     let a = c .before .before .before .before .args in
-    faultOf (c .check-suffix .result) ≡ suffixFault (drop (a .lit .«end_main_part») (a .text .now))
+    checkedOf (c .check-suffix .result) ≡ suffixFault (drop (a .lit .«end_main_part») (a .text .now))
 fault c = c .check-suffix .ensures ∙ rw part-to-end
 
 returns-2 : tie.Need-returns-2
-returns-2 c = after-good _ _ _ (ap faultOf (sym (c .enum-told .given .1)) ∙ fault (c .before .before))
+returns-2 c = after-good _ _ _ (ap checkedOf (sym (c .enum-told .given .1)) ∙ fault (c .before .before))
 
 byte-at-requires : tie.Need-byte-at-requires
 byte-at-requires c κs = search needs
@@ -55,7 +56,7 @@ add-t14 c = search needs
 bad : (c : tie.After-checked) →
     let a = c .before .before .before .before .before .before .args in
     numberOf (c .checked .given .0 .0) ≡ suffixFault (drop (a .lit .«end_main_part») (a .text .now))
-bad c = ap faultOf (sym (c .checked .given .1)) ∙ fault (c .before .before)
+bad c = ap checkedOf (sym (c .checked .given .1)) ∙ fault (c .before .before)
 
 digit-at : (c : tie.After-is-decimal) →
     let a = c .before .before .before .before .before .before .before .before .before .args in

@@ -5,7 +5,7 @@ use native.Mathlib.Omega.{arith}
 use borrow.Author.Tests.{ne-eqb, le-leb, lt-leb}
 use Rattle.err.specs.Numbers.{numberOf}
 use Rattle.err.proofs.Positive.{number-positive}
-use Rattle.input.specs.Checks.{faultOf}
+use Rattle.err.specs.Checked.{checkedOf}
 use Rattle.input.proofs.Checks.{fault-passed}
 use Rattle.literal.specs.Readings.{readAt}
 use Rattle.literal.proofs.Bools.{bool-read}
@@ -44,13 +44,13 @@ entry-requires : tie.Need-entry-requires
 entry-requires c κs =
     let k = c .before .before in
     let b = k .before in
-    (b .before .before .if1 .left, fault-passed _ (sym (k .check-text .ensures) ∙ ap faultOf (c .enum-told .given .1)) .0, sym (b .before .is-bool-at .ensures) ∙ b .if2 .left)
+    (b .before .before .if1 .left, fault-passed _ (sym (k .check-text .ensures) ∙ ap checkedOf (c .enum-told .given .1)) .0, sym (b .before .is-bool-at .ensures) ∙ b .if2 .left)
 
 returns-3 : tie.Need-returns-3
 unfolding readAt
 returns-3 c =
     let k = c .before .before .before in
-    (rw (le-leb _ _ (k .before .before .before .if1 .left), sym (k .check-text .ensures) ∙ ap faultOf (c .before .enum-told .given .1)) (c .entry .ensures), refl)
+    (rw (le-leb _ _ (k .before .before .before .if1 .left), sym (k .check-text .ensures) ∙ ap checkedOf (c .before .enum-told .given .1)) (c .entry .ensures), refl)
 
 perr-nowhere-requires-2 : tie.Need-perr-nowhere-requires-2
 perr-nowhere-requires-2 c κs = search needs
@@ -61,7 +61,7 @@ returns-4 c =
     let d = c .before .before in
     let k = d .before .before in
     let n = d .checked .given .0 .0 in
-    (rw (le-leb _ _ (k .before .before .before .if1 .left), sym (k .check-text .ensures) ∙ ap faultOf (d .checked .given .1), ne-eqb (numberOf n) 0 (λ z. omega (arith, number-positive n))) (c .perr-nowhere2 .ensures), refl)
+    (rw (le-leb _ _ (k .before .before .before .if1 .left), sym (k .check-text .ensures) ∙ ap checkedOf (d .checked .given .1), ne-eqb (numberOf n) 0 (λ z. omega (arith, number-positive n))) (c .perr-nowhere2 .ensures), refl)
 
 pub read-spec : {M : Type 1} → statement M
 read-spec =
