@@ -11,6 +11,7 @@ use lib.ListN.{length, getD, drop, length-drop}
 use lib.Seq.{drop-drop, getD-drop}
 use Rattle.scan.specs.Run.{run, Stops}
 use Rattle.scan.proofs.Bytes.{byte-inside}
+use Rattle.scan.proofs.Cases.{by-lt}
 use Rattle.buffer.specs.Buffer.{Wrote}
 use Rattle.parse.specs.Sets.{blank}
 use Rattle.utf8.specs.Cut.{lastLen}
@@ -21,7 +22,7 @@ use Rattle.escape.specs.declared.Allowed.{Allowed}
 use Rattle.escape.specs.declared.Unescaped.{Unescaped}
 use Rattle.escape.specs.declared.Unescaped.the-variants.{Nothing, Byte}
 use Rattle.escape_code.proofs.Codes.{code-some}
-use Rattle.escape_code.proofs.At.{letter-escape, x-escape, u-escape}
+use Rattle.escape_code.proofs.At.{letter-escape, x-escape, u-escape, none-escape}
 use Rattle.plain_run.specs.Plain.{plainByte}
 use Rattle.body.specs.Step.{Next, piece, stop, ofEscape, backslashOf, stepOf}
 use Rattle.body.specs.Code.{nextCode, codeOf, Stopped}
@@ -128,6 +129,20 @@ module _ (k : Allowed) (s : List ℕ) (i : ℕ) (e : getD s i 0 ≡ 92) where
     u-arm c is z =
         let t = u-escape k s i end within c is z in
         code-arm c (codes.at-escape k s i at-in e (λ g. omega (arith, t .0)) end at-end c (t .1)) z
+
+    -- what is none of these, and not `\0`, ends the body
+    pub other-arm : breakEnd s i ≡ 0 → letterAt s i end ≡ 0 → xAt k s i end ≡ 0 → uAt k s i end ≡ 0 → (getD s (i + 1) 0 ≡ 48 → ⊥) → Arm k s i 0 []
+    unfolding breakEnd
+    other-arm b l x u z = none-arm (sym (by-test (eqb (getD s (i + 1) 0) 10) (eqb (i + 2 + run blank (drop (i + 2) s)) (length s)) refl refl b))
+      where
+        by-test : (t o : Bool) → eqb (getD s (i + 1) 0) 10 ≡ t → eqb (i + 2 + run blank (drop (i + 2) s)) (length s) ≡ o
+            → cond t (cond o 0 (i + 2 + run blank (drop (i + 2) s))) 0 ≡ 0 → 0 ≡ codeOf k (drop i s)
+        by-test true true p q h = codes.at-open k s i at-in e (eqb-true _ _ p) _ refl (eqb-true _ _ q)
+        by-test true false p q h = absurd (omega arith)
+        by-test false o p q h =
+            let other = eqb-false _ _ p in
+            by-lt (i + 1) end (λ g. codes.at-escape k s i at-in e other end at-end 0 (none-escape k s i end within g l x u z))
+            (λ g. codes.at-cut k s i at-in e other end at-end g)
 
 -- ---- a loop that stands at a backslash
 

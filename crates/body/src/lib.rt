@@ -207,6 +207,9 @@ fn stride_at(s: &[u8], at: usize, end: usize, k: Allowed) -> Stride
         };
     }
     // what is left is `\0`, or refused
+    if scan::byte_at(s, at + 1) != b'0' {
+        return Stride { next: 0, value: 0 };
+    }
     let c = code_at(s, at, end, k);
     if c == 0 {
         return Stride { next: 0, value: 0 };

@@ -5,16 +5,17 @@ use mathlib.Core.Bool.{Bool, true, false, cond, not, _&&_}
 use mathlib.Core.List.{List}
 use Prim.Native.Nat.{ℕ, _+_, _-_, _*_, _≤_, _<_}
 use native.Mathlib.Omega.{arith}
-use borrow.Author.Tests.{ltb-true, eqb-true, lt-ltb, le-ltb, eq-eqb}
+use borrow.Author.Tests.{ltb-true, eqb-true, lt-ltb, le-ltb, eq-eqb, ne-eqb}
 use lib.Dec.{eqb, ltb}
 use lib.ListN.{length, getD, take, drop, length-take, length-drop}
 use lib.Seq.{getD-drop, getD-take}
 use Rattle.scan.proofs.Cases.{cond-in}
 use Rattle.parse.specs.Class.{classOf}
 use Rattle.parse.proofs.Classes.{both}
+use Rattle.err.specs.Outcome.{between}
 use Rattle.utf8.specs.Cut.{isBoundary}
 use Rattle.escape.specs.Allows.{unicode, byteEscapes, allowNul}
-use Rattle.escape.specs.Escape.{Escaped, value, bad, letterOf, xByte, xEscape, uScalar, uEscape, escapeOf}
+use Rattle.escape.specs.Escape.{Escaped, value, bad, letterOf, xByte, xEscape, uScalar, uEscape, escapeBy, escapeOf}
 use Rattle.escape.specs.declared.Allowed.{Allowed}
 use Rattle.escape.specs.declared.Unescaped.the-variants.{Byte}
 use Rattle.escape.proofs.Escapes as escapes
@@ -84,6 +85,24 @@ module _ (k : Allowed) (s : List ℕ) (i end : ℕ) (size : end ≤ length s) wh
       let two = seen-two (t .0) in
       let u = two .1 ∙ t .1 in
       (t .1, t .2 ∙ ap escapeCode (escapes.is-u k _ (two .0) (ap letterOf u) (λ g. omega arith) (λ g. omega arith) u))
+
+  -- any other is refused, but for `\0`
+  pub none-escape : i + 1 < end → letterAt s i end ≡ 0 → xAt k s i end ≡ 0 → uAt k s i end ≡ 0 → (getD s (i + 1) 0 ≡ 48 → ⊥)
+      → 0 ≡ escapeCode (escapeOf k (take (end - i) (drop i s)))
+  unfolding letterAt byLetter escapeOf escapeBy
+  none-escape h l x u z =
+      let two = seen-two h in
+      let none : letterOf (getD s (i + 1) 0) ≡ 0 = rw (lt-ltb _ _ h) at l in
+      rw (le-ltb _ 2 (two .0), two .1, none, ne-eqb _ _ z)
+      (by-test (eqb (getD s (i + 1) 0) 120) (eqb (getD s (i + 1) 0) 117) (rw (lt-ltb _ _ h) at x) (rw (lt-ltb _ _ h) at u))
+    where
+      t : List ℕ
+      t = take (end - i) (drop i s)
+      by-test : (p q : Bool) → cond p (escapeCode (xEscape k t)) 0 ≡ 0 → cond q (escapeCode (uEscape k t)) 0 ≡ 0
+          → 0 ≡ escapeCode (cond p (xEscape k t) (cond q (uEscape k t) (bad 8 (between 0 2))))
+      by-test true q f g = sym f
+      by-test false true f g = sym g
+      by-test false false f g = refl
 
 -- ---- an escape by `x` stands for a byte
 

@@ -26,7 +26,7 @@ abbrev at-u : tie.After-u-at → tie.Start
 at-u b = at-x (b .before .before)
 
 abbrev at-code : tie.After-code-at → tie.Start
-at-code b = at-u (b .before .before)
+at-code b = at-u (b .before .before .before .before)
 
 inside : (e : tie.Start) → e .args .at < length (e .args .s .now)
 inside e = strides.at-in (e .args .k) (e .args .s .now) (e .args .at) (e .pre .0)
@@ -59,15 +59,15 @@ by-u c =
     let e = at-u (c .before) in
     strides.u-arm _ _ _ (e .pre .0) _ (e .pre .1 .1) _ (c .before .u-at .ensures) (c .if4 .taken)
 
-none : (c : tie.Then6) →
+none : (c : tie.Then7) →
     let a = at-code (c .before) .args in
     strides.Arm (a .k) (a .s .now) (a .at) 0 []
-none c = strides.none-arm _ _ _ (at-code (c .before) .pre .0) (sym (c .before .code-at .ensures) ∙ c .if6 .taken)
+none c = strides.none-arm _ _ _ (at-code (c .before) .pre .0) (sym (c .before .code-at .ensures) ∙ c .if7 .taken)
 
-coded : (c : tie.Else6) →
+coded : (c : tie.Else7) →
     let a = at-code (c .before) .args in
     strides.Coded (a .k) (a .s .now) (a .at) (c .before .code-at .result) (a .at + codedLen (c .before .code-at .result))
-coded c = strides.code-arm _ _ _ (at-code (c .before) .pre .0) _ (c .before .code-at .ensures) (c .if6 .left)
+coded c = strides.code-arm _ _ _ (at-code (c .before) .pre .0) _ (c .before .code-at .ensures) (c .if7 .left)
 
 break-end-requires : tie.Need-break-end-requires
 break-end-requires c κs = inside (c .before)
@@ -125,11 +125,30 @@ returns-5 c =
     let h = by-u (v .before .before) in
     (omega (arith, h .arm .next, c .before .code-len .ensures), v .value-len .ensures ∙ ap length (strides.coded-value h (v .before .code-value .ensures)))
 
-code-at-requires : tie.Need-code-at-requires
-code-at-requires c κs = let e = at-u (c .before) in (omega (arith, inside e), e .pre .1)
+add-byte-at : tie.Need-add-byte-at
+add-byte-at c = let e = at-u (c .before) in omega (arith, inside e, e .pre .1 .0)
+
+byte-at-requires : tie.Need-byte-at-requires
+byte-at-requires c κs = search needs
 
 returns-6 : tie.Need-returns-6
-returns-6 c = let a = none c in (a .next, ap length (a .value))
+returns-6 c =
+    let u = c .before .before .before in
+    let x = u .before .before in
+    let l = x .before .before in
+    let e = at-u u in
+    let a =
+        strides.other-arm (e .args .k) (e .args .s .now) (e .args .at) (e .pre .0) _ (e .pre .1 .1)
+        (sym (l .before .before .break-end .ensures) ∙ l .before .if1 .left) (sym (l .letter-at .ensures) ∙ x .before .if2 .left)
+        (sym (x .x-at .ensures) ∙ u .before .if3 .left) (sym (u .u-at .ensures) ∙ c .before .before .if4 .left)
+        (λ z. c .if6 .taken (c .before .byte-at .ensures ∙ z)) in
+    (a .next, ap length (a .value))
+
+code-at-requires : tie.Need-code-at-requires
+code-at-requires c κs = let e = at-u (c .before .before .before) in (omega (arith, inside e), e .pre .1)
+
+returns-7 : tie.Need-returns-7
+returns-7 c = let a = none c in (a .next, ap length (a .value))
 
 code-len-requires-2 : tie.Need-code-len-requires-2
 code-len-requires-2 c κs = search needs
@@ -143,8 +162,8 @@ code-value-requires-2 c κs = search needs
 value-len-requires-2 : tie.Need-value-len-requires-2
 value-len-requires-2 c κs = search needs
 
-returns-7 : tie.Need-returns-7
-returns-7 c =
+returns-8 : tie.Need-returns-8
+returns-8 c =
     let l = c .before .before in
     let h = coded (l .before) in
     (omega (arith, h .arm .next, l .code-len2 .ensures), c .value-len2 .ensures ∙ ap length (strides.coded-value h (c .before .code-value2 .ensures)))
@@ -169,10 +188,13 @@ stride-at-spec =
     returns-4
     add-t18
     returns-5
-    code-at-requires
+    add-byte-at
+    byte-at-requires
     returns-6
+    code-at-requires
+    returns-7
     code-len-requires-2
     add-t20
     code-value-requires-2
     value-len-requires-2
-    returns-7)
+    returns-8)
