@@ -98,6 +98,7 @@ module _ (k : Allowed) (s : List ℕ) (i end : ℕ) (size : end ≤ length s) wh
     where
       t : List ℕ
       t = take (end - i) (drop i s)
+
       by-test : (p q : Bool) → cond p (escapeCode (xEscape k t)) 0 ≡ 0 → cond q (escapeCode (uEscape k t)) 0 ≡ 0
           → 0 ≡ escapeCode (cond p (xEscape k t) (cond q (uEscape k t) (bad 8 (between 0 2))))
       by-test true q f g = sym f

@@ -138,10 +138,10 @@ returns-6 c =
     let l = x .before .before in
     let e = at-u u in
     let a =
-        strides.other-arm (e .args .k) (e .args .s .now) (e .args .at) (e .pre .0) _ (e .pre .1 .1)
-        (sym (l .before .before .break-end .ensures) ∙ l .before .if1 .left) (sym (l .letter-at .ensures) ∙ x .before .if2 .left)
-        (sym (x .x-at .ensures) ∙ u .before .if3 .left) (sym (u .u-at .ensures) ∙ c .before .before .if4 .left)
-        (λ z. c .if6 .taken (c .before .byte-at .ensures ∙ z)) in
+    strides.other-arm (e .args .k) (e .args .s .now) (e .args .at) (e .pre .0) _ (e .pre .1 .1)
+    (sym (l .before .before .break-end .ensures) ∙ l .before .if1 .left) (sym (l .letter-at .ensures) ∙ x .before .if2 .left)
+    (sym (x .x-at .ensures) ∙ u .before .if3 .left) (sym (u .u-at .ensures) ∙ c .before .before .if4 .left)
+    (λ z. c .if6 .taken (c .before .byte-at .ensures ∙ z)) in
     (a .next, ap length (a .value))
 
 code-at-requires : tie.Need-code-at-requires
