@@ -1,4 +1,4 @@
-// The line that `batch` writes for each answer, and whether a lent buffer is as it was.
+// The line that `batch` writes for each answer but that of a settling, which it makes of the same parts; and whether a lent buffer is as it was.
 use err::ParseErrorKind;
 use err::Reading;
 use err::Span;

@@ -1,4 +1,4 @@
-// Spans, error kinds and readings: what every parser here answers.
+// Spans, error kinds, what a check finds, and readings: what every parser here answers.
 ghost use mathlib.Core.Path.{_≡_};
 ghost use lib.ListN.{length};
 ghost use Rattle.err.specs.Numbers.{numberOf};

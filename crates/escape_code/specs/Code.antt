@@ -35,6 +35,6 @@ valueBy v = cond (eqb v 0) Nothing (cond (ltb v 257) (Byte (v - 1)) (Unicode (v 
 unfoldable pub codedValue : ℕ → Unescaped
 codedValue c = valueBy (c % 4294967296)
 
--- it stands for a byte
+-- it stands for a byte: where `valueBy` gives one
 abbrev pub OfByte : ℕ → Type 0
 OfByte c = (1 ≤ c % 4294967296) × (c % 4294967296 ≤ 256)

@@ -172,7 +172,7 @@ pub fn letter_at(s: &[u8], at: usize, end: usize) -> u8
     0
 }
 
-// The code of an escape by `x`; 0 where there is none.
+// The code of an escape by `x`; 0 where there is none, or it is refused.
 pub fn x_at(s: &[u8], at: usize, end: usize, k: Allowed) -> u64
     requires { ⌜ (at < length (now s)) × (end ≤ length (now s)) ⌝ }
     ensures { λ r. ⌜ r ≡ xAt k (now (s .entry)) at end ⌝ }
@@ -215,7 +215,7 @@ fn two_digits(s: &[u8], at: usize, end: usize, k: Allowed) -> u64
     scalar_code((16 * a + b) as u32, 6, k)
 }
 
-// The code of an escape by `u`; 0 where there is none.
+// The code of an escape by `u`; 0 where there is none, or it is refused.
 pub fn u_at(s: &[u8], at: usize, end: usize, k: Allowed) -> u64
     requires { ⌜ (at < length (now s)) × ((length (now s) < 4294967296) × (end ≤ length (now s))) ⌝ }
     ensures { λ r. ⌜ r ≡ uAt k (now (s .entry)) at end ⌝ }

@@ -1,14 +1,12 @@
 -- A bool by entry 0 or 1 is read at once: nothing is wrong with its text.
 -- Assumes nothing.
 use mathlib.Core.Path.{_≡_, refl, sym, subst}
-use mathlib.Core.Bool.{Bool, true, false, cond, _||_, _&&_}
+use mathlib.Core.Bool.{Bool, true, false, _||_, _&&_}
 use mathlib.Core.List.{List}
 use Prim.Native.Nat.{ℕ, zero, suc}
 use native.Mathlib.Omega.{arith}
-use borrow.Author.Tests.{leb-true, ne-eqb}
-use lib.Dec.{eqb, leb}
-use lib.ListN.{length}
-use Rattle.err.specs.Outcome.{refused, accepted, none, truth}
+use borrow.Author.Tests.{leb-true}
+use lib.Dec.{leb}
 use Rattle.scan.specs.Same.{same}
 use Rattle.scan.proofs.Cases.{clash}
 use Rattle.scan.proofs.Sames.{same-eq}
@@ -17,7 +15,6 @@ use Rattle.utf8.specs.Valid.{charsWithin, isUtf8}
 use Rattle.parse.specs.Class.{classOf}
 use Rattle.parse.specs.Sets.{decDigit}
 use Rattle.boolean.specs.Bool.{trueText, falseText, isBool, boolRead}
-use Rattle.entries.specs.Entries.{entryFor, chosenEntry}
 use Rattle.input.specs.Checks.{textFault}
 use Rattle.literal.specs.Readings.{anyBy, anyRead, entryRead, boolAt, readAt}
 
@@ -48,23 +45,3 @@ bool-read code s h = by-tests (leb code 1) (same s trueText) (same s falseText) 
     by-tests true true f e g k h = subst (Read code) (sym (same-eq s trueText g)) (true-read code e)
     by-tests true false true e g k h = subst (Read code) (sym (same-eq s falseText k)) (false-read code e)
     by-tests true false false e g k h = clash h refl
-
--- a text that is read as a bool and is none is 3
-pub not-bool : (code : ℕ) (s : List ℕ) → boolAt code s ≡ false → chosenEntry code s ≡ 1 → boolRead s ≡ refused 3 none
-unfolding boolAt isBool boolRead chosenEntry
-not-bool code s = by-code code
-  where
-    neither : (t f : Bool) → (t || f) ≡ false
-        → cond f (accepted 1 (length s) (truth false)) (cond t (accepted 1 (length s) (truth true)) (refused 3 none)) ≡ refused 3 none
-    neither true f h = clash refl h
-    neither false true h = clash refl h
-    neither false false h = refl
-
-    by-code : (code : ℕ) → (leb code 1 && (same s trueText || same s falseText)) ≡ false → cond (eqb code 0) (entryFor s) code ≡ 1
-        → cond (same s falseText) (accepted 1 (length s) (truth false)) (cond (same s trueText) (accepted 1 (length s) (truth true)) (refused 3 none))
-        ≡ refused 3 none
-    by-code zero h e = neither (same s trueText) (same s falseText) h
-    by-code (suc zero) h e = neither (same s trueText) (same s falseText) h
-    by-code (suc (suc n)) h e =
-        let f : suc (suc n) ≡ 1 = rw (ne-eqb (suc (suc n)) 0 (λ z. omega arith)) at e in
-        absurd (omega (arith, f))

@@ -14,7 +14,6 @@ use types::IntegerFound;
 use types::IntegerType;
 use types::Largest;
 ghost use mathlib.Core.Path.{_≡_};
-ghost use mathlib.Core.Bool.{false};
 ghost use Prim.Native.Nat.{_≤_};
 ghost use lib.ListN.{length};
 ghost use Rattle.integer_value.specs.Value.{valuedOf};
@@ -65,18 +64,18 @@ fn kind_of(entry: u64) -> Kind
     }
 }
 
-// The reading of a checked text that is not read as a bool. Each other kind's parser is called at this one place.
+// The reading of a checked text. Each kind's parser is called at this one place.
 fn entry(code: u64, text: &[u8]) -> Reading
-    requires { ⌜ (code ≤ 8) × (length (now text) ≤ 65536) × (boolAt code (now text) ≡ false) ⌝ }
+    requires { ⌜ (code ≤ 8) × (length (now text) ≤ 65536) ⌝ }
     ensures { λ r. ⌜ outcomeOf r ≡ entryRead code (now (text .entry)) ⌝ }
 {
     let e = entries::chosen(code, text);
     match e {
-        // no bool: that was told before
-        1 | 9 => err::perr_nowhere(ParseErrorKind::InvalidLiteral),
+        1 => boolean::parse(text),
         2 => integer::parse(text),
         3 => float::parse(text),
         4 | 6 => character::parse(text, quote_of(e)),
+        9 => err::perr_nowhere(ParseErrorKind::InvalidLiteral),
         _ => string::parse(text, kind_of(e)),
     }
 }
@@ -98,9 +97,6 @@ pub fn read(code: u64, text: &[u8]) -> Reading
 {
     if 8 < code {
         return err::perr_nowhere(ParseErrorKind::BadCode);
-    }
-    if is_bool_at(code, text) {
-        return boolean::parse(text);
     }
     let checked = input::check_text(text);
     let Checked::Bad(kind) = checked else {

@@ -1,48 +1,47 @@
 -- The numbers of parts of a text: of one byte, of parts one behind the other. For any test.
 -- Assumes nothing.
 use mathlib.Core.Path.{_≡_, _∙_}
-use mathlib.Core.Bool.{Bool, true, false, cond}
+use mathlib.Core.Bool.{Bool}
 use mathlib.Core.List.{List}
 use Prim.Native.Nat.{ℕ, _+_, _≤_, _<_, max}
 use native.Mathlib.Omega.{arith}
-use lib.Dec.{leb}
 use lib.ListN.{length, getD, drop}
 use lib.Seq.{drop-drop}
 use borrow.Author.Tests.{le-leb, lt-leb}
 use Rattle.scan.specs.Run.{run}
 use Rattle.scan.proofs.Cases.{by-lt, cond-in}
 use Rattle.scan.proofs.Runs.{run-more, run-stop, run-past}
-use Rattle.plain_run.specs.Windows.{oddIn}
+use Rattle.plain_run.specs.Windows.{haltBy, haltIn}
 
 module _ (p : ℕ → Bool) (s : List ℕ) where
-  whole : (at n : ℕ) → n ≤ run p (drop at s) → oddIn p at n s ≡ 127
-  unfolding oddIn
+  whole : (at n : ℕ) → n ≤ run p (drop at s) → haltIn p at n s ≡ 127
+  unfolding haltIn
   whole at n h = rw (le-leb n (run p (drop at s)) h)
 
-  broken : (at n : ℕ) → run p (drop at s) < n → oddIn p at n s ≡ 128
-  unfolding oddIn
+  broken : (at n : ℕ) → run p (drop at s) < n → haltIn p at n s ≡ 128
+  unfolding haltIn
   broken at n h = rw (lt-leb n (run p (drop at s)) h)
 
   -- a number below 128 tells that all of them pass, so that the run goes on behind them
-  pub odd-passed : (at n : ℕ) → at ≤ run p s → oddIn p at n s < 128 → at + n ≤ run p s
-  odd-passed at n h o = omega (arith, run-past p at s h, by-lt (run p (drop at s)) n (λ l. absurd (omega (arith, broken at n l))) (λ l. l))
+  pub halt-passed : (at n : ℕ) → at ≤ run p s → haltIn p at n s < 128 → at + n ≤ run p s
+  halt-passed at n h o = omega (arith, run-past p at s h, by-lt (run p (drop at s)) n (λ l. absurd (omega (arith, broken at n l))) (λ l. l))
 
-  pub odd-one : (at : ℕ) → at < length s → oddIn p at 1 s ≡ cond (p (getD s at 0)) 127 128
-  odd-one at h =
-      cond-in (λ (n : ℕ). oddIn p at 1 s ≡ n) (p (getD s at 0)) (λ e. whole at 1 (omega (arith, run-more p s at h e))) (λ e. broken at 1 (omega (arith, run-stop p s at h e)))
+  pub halt-one : (at : ℕ) → at < length s → haltIn p at 1 s ≡ haltBy (p (getD s at 0))
+  halt-one at h =
+      cond-in (λ (n : ℕ). haltIn p at 1 s ≡ n) (p (getD s at 0)) (λ e. whole at 1 (omega (arith, run-more p s at h e))) (λ e. broken at 1 (omega (arith, run-stop p s at h e)))
 
-  pub odd-halves : (at a b : ℕ) → oddIn p at (a + b) s ≡ max (oddIn p at a s) (oddIn p (at + a) b s)
-  odd-halves at a b = by-lt (run p (drop at s)) a first λ h.
+  pub halt-halves : (at a b : ℕ) → haltIn p at (a + b) s ≡ max (haltIn p at a s) (haltIn p (at + a) b s)
+  halt-halves at a b = by-lt (run p (drop at s)) a first λ h.
       let past : run p (drop at s) ≡ a + run p (drop (at + a) s) = rw (← drop-drop) (run-past p a (drop at s) h) in
       by-lt (run p (drop (at + a) s)) b (λ g. omega (arith, broken at (a + b) (omega arith), whole at a h, broken (at + a) b g))
       (λ g. omega (arith, whole at (a + b) (omega arith), whole at a h, whole (at + a) b g))
     where
-      most : oddIn p (at + a) b s ≤ 128
+      most : haltIn p (at + a) b s ≤ 128
       most = by-lt (run p (drop (at + a) s)) b (λ g. omega (arith, broken (at + a) b g)) (λ g. omega (arith, whole (at + a) b g))
 
-      first : run p (drop at s) < a → oddIn p at (a + b) s ≡ max (oddIn p at a s) (oddIn p (at + a) b s)
+      first : run p (drop at s) < a → haltIn p at (a + b) s ≡ max (haltIn p at a s) (haltIn p (at + a) b s)
       first h = omega (arith, broken at (a + b) (omega arith), broken at a h, most)
 
   -- eight bytes by twos
-  pub odd-twos : (at : ℕ) → oddIn p at 8 s ≡ max (max (oddIn p at 2 s) (oddIn p (at + 2) 2 s)) (max (oddIn p (at + 4) 2 s) (oddIn p (at + 6) 2 s))
-  odd-twos at = let six : at + 4 + 2 ≡ at + 6 = omega arith in odd-halves at 4 4 ∙ rw (odd-halves at 2 2, odd-halves (at + 4) 2 2, six)
+  pub halt-twos : (at : ℕ) → haltIn p at 8 s ≡ max (max (haltIn p at 2 s) (haltIn p (at + 2) 2 s)) (max (haltIn p (at + 4) 2 s) (haltIn p (at + 6) 2 s))
+  halt-twos at = let six : at + 4 + 2 ≡ at + 6 = omega arith in halt-halves at 4 4 ∙ rw (halt-halves at 2 2, halt-halves (at + 4) 2 2, six)

@@ -7,6 +7,10 @@ use lib.Dec.{leb}
 use lib.ListN.{drop}
 use Rattle.scan.specs.Run.{run}
 
--- 127 where the n bytes at an offset do, else 128
-unfoldable pub oddIn : (ℕ → Bool) → ℕ → ℕ → List ℕ → ℕ
-oddIn p at n s = cond (leb n (run p (drop at s))) 127 128
+-- a test as a number whose highest bit of eight tells that it fails
+abbrev pub haltBy : Bool → ℕ
+haltBy t = cond t 127 128
+
+-- of the n bytes at an offset: that they all pass
+unfoldable pub haltIn : (ℕ → Bool) → ℕ → ℕ → List ℕ → ℕ
+haltIn p at n s = haltBy (leb n (run p (drop at s)))

@@ -7,7 +7,7 @@ ghost use lib.ListN.{length, drop};
 ghost use Rattle.scan.specs.Run.{run};
 ghost use Rattle.escape.specs.Allows.{unicode, allowNul};
 ghost use Rattle.plain_run.specs.Plain.{plainByte};
-ghost use Rattle.plain_run.specs.Windows.{oddIn};
+ghost use Rattle.plain_run.specs.Windows.{haltBy, haltIn};
 
 // Whether a byte stands for itself.
 pub fn is_plain(b: u8, k: Allowed) -> bool
@@ -121,47 +121,48 @@ pub fn run_end(s: &[u8], from: usize, k: Allowed) -> usize
 }
 
 // The lowest byte that may stand for itself.
-fn lowest(k: Allowed) -> u8
+fn lowest_plain(k: Allowed) -> u8
     ensures { λ r. ⌜ r ≡ cond (allowNul k) 0 1 ⌝ }
 {
     if k.allow_nul() { 0 } else { 1 }
 }
 
-// The highest.
-fn highest(k: Allowed) -> u8
+// The highest byte that may stand for itself.
+fn highest_plain(k: Allowed) -> u8
     ensures { λ r. ⌜ r ≡ cond (unicode k) 255 127 ⌝ }
 {
     if k.unicode() { 255 } else { 127 }
 }
 
-// 127 for a byte that stands for itself, 128 for another. Every test is made, so that the compiler makes one vector of eight bytes' numbers.
-fn odd(b: u8, k: Allowed) -> u8
-    ensures { λ r. ⌜ r ≡ cond (plainByte k b) 127 128 ⌝ }
+// 127 for a byte that stands for itself, 128 for one at which a run halts: the highest bit tells. Every test is made, so that the compiler makes
+// one vector of eight bytes' numbers.
+fn halt(b: u8, k: Allowed) -> u8
+    ensures { λ r. ⌜ r ≡ haltBy (plainByte k b) ⌝ }
 {
     127
         + scan::bit(b == b'\\')
         + scan::bit(b == b'"')
         + scan::bit(b == b'\r')
-        + scan::bit(b < lowest(k))
-        + scan::bit(highest(k) < b)
+        + scan::bit(b < lowest_plain(k))
+        + scan::bit(highest_plain(k) < b)
 }
 
 // 127 where the two bytes at an offset stand for themselves, else 128.
-fn odd_two(s: &[u8], at: usize, k: Allowed) -> u8
+fn halt_two(s: &[u8], at: usize, k: Allowed) -> u8
     requires { ⌜ at + 2 ≤ length (now s) ⌝ }
-    ensures { λ r. ⌜ r ≡ oddIn (plainByte k) at 2 (now (s .entry)) ⌝ }
+    ensures { λ r. ⌜ r ≡ haltIn (plainByte k) at 2 (now (s .entry)) ⌝ }
 {
-    scan::larger(odd(s[at], k), odd(s[at + 1], k))
+    scan::larger(halt(s[at], k), halt(s[at + 1], k))
 }
 
 // The same of eight bytes.
-fn odd_eight(s: &[u8], at: usize, k: Allowed) -> u8
+fn halt_eight(s: &[u8], at: usize, k: Allowed) -> u8
     requires { ⌜ at + 8 ≤ length (now s) ⌝ }
-    ensures { λ r. ⌜ r ≡ oddIn (plainByte k) at 8 (now (s .entry)) ⌝ }
+    ensures { λ r. ⌜ r ≡ haltIn (plainByte k) at 8 (now (s .entry)) ⌝ }
 {
     scan::larger(
-        scan::larger(odd_two(s, at, k), odd_two(s, at + 2, k)),
-        scan::larger(odd_two(s, at + 4, k), odd_two(s, at + 6, k)),
+        scan::larger(halt_two(s, at, k), halt_two(s, at + 2, k)),
+        scan::larger(halt_two(s, at + 4, k), halt_two(s, at + 6, k)),
     )
 }
 
@@ -178,7 +179,7 @@ pub fn front_end(s: &[u8], k: Allowed) -> usize
     let n = s.len() - 1;
     let last = n - 8;
     let mut at = 0;
-    while odd_eight(s, at, k) < 128 {
+    while halt_eight(s, at, k) < 128 {
         if at == last {
             if s[n] == b'"' {
                 return n;

@@ -8,7 +8,6 @@ use Rattle.err.proofs.Positive.{number-positive}
 use Rattle.err.specs.Checked.{checkedOf}
 use Rattle.input.proofs.Checks.{fault-passed}
 use Rattle.literal.specs.Readings.{readAt}
-use Rattle.literal.proofs.Bools.{bool-read}
 use borrow.Author.Needs.{needs}
 use Rattle.literal.proofs.read.Statement.{statement}
 use Rattle.literal.proofs.read.Tie as tie
@@ -19,17 +18,6 @@ perr-nowhere-requires c κs = search needs
 returns : tie.Need-returns
 unfolding readAt
 returns c = (rw (lt-leb _ _ (c .before .if1 .taken)) (c .perr-nowhere .ensures), refl)
-
-is-bool-at-requires : tie.Need-is-bool-at-requires
-is-bool-at-requires c κs = search needs
-
-parse-requires : tie.Need-parse-requires
-parse-requires c κs = search needs
-
-returns-2 : tie.Need-returns-2
-returns-2 c =
-    let b = c .before in
-    (c .parse .ensures ∙ sym (bool-read _ _ (sym (b .before .is-bool-at .ensures) ∙ b .if2 .taken)), refl)
 
 check-text-requires : tie.Need-check-text-requires
 check-text-requires c κs = search needs
@@ -43,25 +31,24 @@ enum-told c = search needs
 entry-requires : tie.Need-entry-requires
 entry-requires c κs =
     let k = c .before .before in
-    let b = k .before in
-    (b .before .before .if1 .left, fault-passed _ (sym (k .check-text .ensures) ∙ ap checkedOf (c .enum-told .given .1)) .0, sym (b .before .is-bool-at .ensures) ∙ b .if2 .left)
+    (k .before .if1 .left, fault-passed _ (sym (k .check-text .ensures) ∙ ap checkedOf (c .enum-told .given .1)) .0)
 
-returns-3 : tie.Need-returns-3
+returns-2 : tie.Need-returns-2
 unfolding readAt
-returns-3 c =
+returns-2 c =
     let k = c .before .before .before in
-    (rw (le-leb _ _ (k .before .before .before .if1 .left), sym (k .check-text .ensures) ∙ ap checkedOf (c .before .enum-told .given .1)) (c .entry .ensures), refl)
+    (rw (le-leb _ _ (k .before .if1 .left), sym (k .check-text .ensures) ∙ ap checkedOf (c .before .enum-told .given .1)) (c .entry .ensures), refl)
 
 perr-nowhere-requires-2 : tie.Need-perr-nowhere-requires-2
 perr-nowhere-requires-2 c κs = search needs
 
-returns-4 : tie.Need-returns-4
+returns-3 : tie.Need-returns-3
 unfolding readAt
-returns-4 c =
+returns-3 c =
     let d = c .before .before in
     let k = d .before .before in
     let n = d .checked .given .0 .0 in
-    (rw (le-leb _ _ (k .before .before .before .if1 .left), sym (k .check-text .ensures) ∙ ap checkedOf (d .checked .given .1), ne-eqb (numberOf n) 0 (λ z. omega (arith, number-positive n))) (c .perr-nowhere2 .ensures), refl)
+    (rw (le-leb _ _ (k .before .if1 .left), sym (k .check-text .ensures) ∙ ap checkedOf (d .checked .given .1), ne-eqb (numberOf n) 0 (λ z. omega (arith, number-positive n))) (c .perr-nowhere2 .ensures), refl)
 
 pub read-spec : {M : Type 1} → statement M
 read-spec =
@@ -69,13 +56,10 @@ read-spec =
     (tie.spec
     perr-nowhere-requires
     returns
-    is-bool-at-requires
-    parse-requires
-    returns-2
     check-text-requires
     enum-known-checked
     enum-told
     entry-requires
-    returns-3
+    returns-2
     perr-nowhere-requires-2
-    returns-4)
+    returns-3)

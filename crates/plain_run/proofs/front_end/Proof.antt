@@ -1,14 +1,14 @@
 -- `plain_run::front_end` meets its contract.
 -- Assumes nothing.
 use borrow.Author.Needs.{needs}
-use mathlib.Core.Path.{_≡_, sym, _∙_}
+use mathlib.Core.Path.{sym, _∙_}
 use Prim.Native.Nat.{_+_, _-_, _≤_}
 use native.Mathlib.Omega.{arith}
-use lib.ListN.{length, drop}
+use lib.ListN.{length}
 use Rattle.scan.specs.Run.{run}
 use Rattle.scan.proofs.Runs.{run-stop, run-past}
 use Rattle.plain_run.specs.Plain.{plainByte}
-use Rattle.plain_run.proofs.Windows.{odd-passed}
+use Rattle.plain_run.proofs.Windows.{halt-passed}
 use Rattle.plain_run.proofs.front_end.Statement.{statement}
 use Rattle.plain_run.proofs.front_end.Tie as tie
 
@@ -26,7 +26,7 @@ eight : (t : tie.Then3 Inv-loop μ-loop) →
 eight t =
     let l = t .before .before in
     let a = l .before .before .before .before .args in
-    odd-passed (plainByte (a .k)) (a .s .now) (l .loop .at) 8 (l .loop .inv .1) (omega (arith, t .before .odd-eight .ensures, t .if3 .taken))
+    halt-passed (plainByte (a .k)) (a .s .now) (l .loop .at) 8 (l .loop .inv .1) (omega (arith, t .before .halt-eight .ensures, t .if3 .taken))
 
 block-end-requires : tie.Need-block-end-requires Inv-loop μ-loop
 block-end-requires c κs = search needs
@@ -49,8 +49,8 @@ sub-last c = search needs
 loop-holds : tie.Need-loop-holds Inv-loop μ-loop
 loop-holds c = search needs
 
-odd-eight-requires : tie.Need-odd-eight-requires Inv-loop μ-loop
-odd-eight-requires c κs = search needs
+halt-eight-requires : tie.Need-halt-eight-requires Inv-loop μ-loop
+halt-eight-requires c κs = search needs
 
 shared-slice-read-if5 : tie.Need-shared-slice-read-if5 Inv-loop μ-loop
 shared-slice-read-if5 c = search needs
@@ -101,7 +101,7 @@ front-end-spec =
     sub-n
     sub-last
     loop-holds
-    odd-eight-requires
+    halt-eight-requires
     shared-slice-read-if5
     returns-3
     block-end-requires-3

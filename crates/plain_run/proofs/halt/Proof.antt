@@ -1,12 +1,11 @@
--- `plain_run::odd` meets its contract.
+-- `plain_run::halt` meets its contract.
 -- Assumes nothing.
-use mathlib.Core.Path.{sym, _∙_}
 use native.Mathlib.Omega.{arith}
 use borrow.Author.Needs.{needs}
 use Rattle.scan.proofs.Cases.{bit-le}
 use Rattle.plain_run.proofs.Marks.{tests-tell}
-use Rattle.plain_run.proofs.odd.Statement.{statement}
-use Rattle.plain_run.proofs.odd.Tie as tie
+use Rattle.plain_run.proofs.halt.Statement.{statement}
+use Rattle.plain_run.proofs.halt.Tie as tie
 
 bit-requires : tie.Need-bit-requires
 bit-requires c κs = search needs
@@ -26,8 +25,8 @@ bit-requires-3 c κs = search needs
 add-result-3 : tie.Need-add-result-3
 add-result-3 c = omega (arith, bit-le _ (c .before .before .bit .ensures), bit-le _ (c .before .bit2 .ensures), bit-le _ (c .bit3 .ensures))
 
-lowest-requires : tie.Need-lowest-requires
-lowest-requires c κs = search needs
+lowest-plain-requires : tie.Need-lowest-plain-requires
+lowest-plain-requires c κs = search needs
 
 bit-requires-4 : tie.Need-bit-requires-4
 bit-requires-4 c κs = search needs
@@ -37,8 +36,8 @@ add-result-4 c =
     let b = c .before .before in
     omega (arith, bit-le _ (b .before .before .bit .ensures), bit-le _ (b .before .bit2 .ensures), bit-le _ (b .bit3 .ensures), bit-le _ (c .bit4 .ensures))
 
-highest-requires : tie.Need-highest-requires
-highest-requires c κs = search needs
+highest-plain-requires : tie.Need-highest-plain-requires
+highest-plain-requires c κs = search needs
 
 bit-requires-5 : tie.Need-bit-requires-5
 bit-requires-5 c κs = search needs
@@ -54,11 +53,11 @@ returns c =
     let d = c .before .before in
     let b = d .before .before in
     let a = b .before .before .before .args in
-    rw (b .before .before .bit .ensures, b .before .bit2 .ensures, b .bit3 .ensures, d .bit4 .ensures, c .bit5 .ensures, d .before .lowest .ensures, c .before .highest .ensures)
+    rw (b .before .before .bit .ensures, b .before .bit2 .ensures, b .bit3 .ensures, d .bit4 .ensures, c .bit5 .ensures, d .before .lowest-plain .ensures, c .before .highest-plain .ensures)
     (tests-tell (a .k) (a .b) (search needs))
 
-pub odd-spec : {M : Type 1} → statement M
-odd-spec =
+pub halt-spec : {M : Type 1} → statement M
+halt-spec =
     tie.close
     (tie.spec
     bit-requires
@@ -67,10 +66,10 @@ odd-spec =
     add-result-2
     bit-requires-3
     add-result-3
-    lowest-requires
+    lowest-plain-requires
     bit-requires-4
     add-result-4
-    highest-requires
+    highest-plain-requires
     bit-requires-5
     add-result-5
     returns)
