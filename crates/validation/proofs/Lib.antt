@@ -1,4 +1,3 @@
 pub mod Pairs
-pub mod Lead
 pub mod Windows
 pub mod Ends

@@ -8,7 +8,6 @@ ghost use Rattle.utf8.specs.Valid.{isUtf8};
 ghost use Rattle.utf8.specs.Cut.{tail};
 ghost use Rattle.validation.specs.Pairs.{PairAt};
 ghost use Rattle.block_validation.specs.HighBytes.{highestFrom};
-ghost use Rattle.validation.specs.Lead.{asciiLead};
 ghost use Rattle.validation.specs.Windows.{highestIn};
 
 // Whether a byte 10xxxxxx stands at an offset; behind the end there is none.
@@ -91,31 +90,6 @@ fn valid_len(text: &[u8], at: usize) -> usize
     four_len(text, at, first, second)
 }
 
-// How many of the first four bytes are below 128, up to the first that is not; 0 where there are less than three bytes.
-fn ascii_lead(text: &[u8]) -> usize
-    ensures { λ r. ⌜ r ≡ asciiLead (now (text .entry)) ⌝ }
-{
-    if text.len() < 3 {
-        return 0;
-    }
-    if 127 < text[0] {
-        return 0;
-    }
-    if 127 < text[1] {
-        return 1;
-    }
-    if 127 < text[2] {
-        return 2;
-    }
-    if text.len() == 3 {
-        return 3;
-    }
-    if 127 < text[3] {
-        return 3;
-    }
-    4
-}
-
 // The higher of the two bytes at an offset.
 fn highest_two(s: &[u8], at: usize) -> u8
     requires { ⌜ at + 2 ≤ length (now s) ⌝ }
@@ -148,12 +122,16 @@ fn highest_sixteen(s: &[u8], at: usize) -> u8
     scan::larger(highest_eight(s, at), highest_eight(s, at + 8))
 }
 
-// Whether a text of eight bytes or more is ASCII. Up to 32 bytes, the first and the last eight or sixteen are all there are. The last are named
+// Whether a text of four bytes or more is ASCII. Up to 32 bytes, the first and the last four, eight or sixteen are all there are. The last are named
 // first: the other way round the compiler makes two vectors and takes both apart.
 fn is_ascii(text: &[u8]) -> bool
-    requires { ⌜ 8 ≤ length (now text) ⌝ }
+    requires { ⌜ 4 ≤ length (now text) ⌝ }
     ensures { λ r. ⌜ r ≡ ltb (highestFrom 0 (now (text .entry))) 128 ⌝ }
 {
+    if text.len() < 8 {
+        let last = text.len() - 4;
+        return scan::larger(highest_four(text, last), highest_four(text, 0)) < 128;
+    }
     if text.len() < 16 {
         let last = text.len() - 8;
         return scan::larger(highest_eight(text, last), highest_eight(text, 0)) < 128;
@@ -171,16 +149,18 @@ fn short_utf8(text: &[u8]) -> bool
     ensures { λ r. ⌜ r ≡ isUtf8 (now (text .entry)) ⌝ }
 {
     let mut stop = text.len();
-    if 8 <= text.len() {
+    if 4 <= text.len() {
         if is_ascii(text) {
             return true;
         }
-        let last = text.len() - 8;
-        if highest_eight(text, last) < 128 {
-            stop = last;
+        if 8 <= text.len() {
+            let last = text.len() - 8;
+            if highest_eight(text, last) < 128 {
+                stop = last;
+            }
         }
     }
-    let mut at = ascii_lead(text);
+    let mut at = 0;
     while at < stop {
         if text[at] < 0x80 {
             at += 1;

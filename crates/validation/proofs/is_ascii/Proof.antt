@@ -13,11 +13,11 @@ use Rattle.validation.proofs.is_ascii.Tie as tie
 sub-last : tie.Need-sub-last
 sub-last c = search needs
 
-highest-eight-requires : tie.Need-highest-eight-requires
-highest-eight-requires c κs = search needs
+highest-four-requires : tie.Need-highest-four-requires
+highest-four-requires c κs = search needs
 
-highest-eight-requires-2 : tie.Need-highest-eight-requires-2
-highest-eight-requires-2 c κs = search needs
+highest-four-requires-2 : tie.Need-highest-four-requires-2
+highest-four-requires-2 c κs = search needs
 
 larger-requires : tie.Need-larger-requires
 larger-requires c κs = search needs
@@ -27,18 +27,18 @@ returns c =
     let b = c .before .before .before in
     let t = b .before .before .args .text .now in
     let e : c .larger .result ≡ highestFrom 0 t =
-    c .larger .ensures ∙ rw (c .before .before .highest-eight .ensures, c .before .highest-eight2 .ensures) (highest-ends t 8 (b .before .before .pre) (omega (arith, b .if1 .taken)))
+    c .larger .ensures ∙ rw (c .before .before .highest-four .ensures, c .before .highest-four2 .ensures) (highest-ends t 4 (b .before .before .pre) (omega (arith, b .if1 .taken)))
     in
     ap (λ (n : ℕ). ltb n 128) e
 
 sub-last-2 : tie.Need-sub-last-2
 sub-last-2 c = search needs
 
-highest-sixteen-requires : tie.Need-highest-sixteen-requires
-highest-sixteen-requires c κs = search needs
+highest-eight-requires : tie.Need-highest-eight-requires
+highest-eight-requires c κs = search needs
 
-highest-sixteen-requires-2 : tie.Need-highest-sixteen-requires-2
-highest-sixteen-requires-2 c κs = search needs
+highest-eight-requires-2 : tie.Need-highest-eight-requires-2
+highest-eight-requires-2 c κs = search needs
 
 larger-requires-2 : tie.Need-larger-requires-2
 larger-requires-2 c κs = search needs
@@ -48,15 +48,36 @@ returns-2 c =
     let b = c .before .before .before in
     let t = b .before .before .before .args .text .now in
     let e : c .larger2 .result ≡ highestFrom 0 t =
-    c .larger2 .ensures ∙ rw (c .before .before .highest-sixteen .ensures, c .before .highest-sixteen2 .ensures) (highest-ends t 16 (omega (arith, b .before .if1 .left)) (omega (arith, b .if2 .taken)))
+    c .larger2 .ensures ∙ rw (c .before .before .highest-eight .ensures, c .before .highest-eight2 .ensures) (highest-ends t 8 (omega (arith, b .before .if1 .left)) (omega (arith, b .if2 .taken)))
+    in
+    ap (λ (n : ℕ). ltb n 128) e
+
+sub-last-3 : tie.Need-sub-last-3
+sub-last-3 c = search needs
+
+highest-sixteen-requires : tie.Need-highest-sixteen-requires
+highest-sixteen-requires c κs = search needs
+
+highest-sixteen-requires-2 : tie.Need-highest-sixteen-requires-2
+highest-sixteen-requires-2 c κs = search needs
+
+larger-requires-3 : tie.Need-larger-requires-3
+larger-requires-3 c κs = search needs
+
+returns-3 : tie.Need-returns-3
+returns-3 c =
+    let b = c .before .before .before in
+    let t = b .before .before .before .before .args .text .now in
+    let e : c .larger3 .result ≡ highestFrom 0 t =
+    c .larger3 .ensures ∙ rw (c .before .before .highest-sixteen .ensures, c .before .highest-sixteen2 .ensures) (highest-ends t 16 (omega (arith, b .before .if2 .left)) (omega (arith, b .if3 .taken)))
     in
     ap (λ (n : ℕ). ltb n 128) e
 
 highest-requires : tie.Need-highest-requires
 highest-requires c κs = search needs
 
-returns-3 : tie.Need-returns-3
-returns-3 c =
+returns-4 : tie.Need-returns-4
+returns-4 c =
     ap (λ (n : ℕ). ltb n 128) (c .highest .ensures)
 
 pub is-ascii-spec : {M : Type 1} → statement M
@@ -64,14 +85,19 @@ is-ascii-spec =
     tie.close
     (tie.spec
     sub-last
-    highest-eight-requires
-    highest-eight-requires-2
+    highest-four-requires
+    highest-four-requires-2
     larger-requires
     returns
     sub-last-2
-    highest-sixteen-requires
-    highest-sixteen-requires-2
+    highest-eight-requires
+    highest-eight-requires-2
     larger-requires-2
     returns-2
+    sub-last-3
+    highest-sixteen-requires
+    highest-sixteen-requires-2
+    larger-requires-3
+    returns-3
     highest-requires
-    returns-3)
+    returns-4)

@@ -7,13 +7,11 @@ use native.Mathlib.Omega.{arith}
 use lib.ListN.{length, drop}
 use borrow.Author.Needs.{needs}
 use borrow.Author.Tests.{ltb-true}
-use Rattle.scan.specs.Run.{run}
 use Rattle.utf8.specs.Valid.{isUtf8}
-use Rattle.utf8.proofs.Valid.{isUtf8-char, isUtf8-bad, isUtf8-front, isUtf8-ascii}
-use Rattle.block_validation.specs.HighBytes.{ascii, highestFrom}
-use Rattle.block_validation.proofs.HighBytes.{highest-above, ascii-each}
+use Rattle.utf8.proofs.Valid.{isUtf8-char, isUtf8-bad, isUtf8-ascii}
+use Rattle.block_validation.specs.HighBytes.{highestFrom}
+use Rattle.block_validation.proofs.HighBytes.{highest-above}
 use Rattle.block_validation.proofs.Ranges.{len-one}
-use Rattle.validation.proofs.Lead.{lead-le}
 use Rattle.validation.proofs.Ends.{AsciiFrom, from-end, from-last, from-utf8}
 use Rattle.validation.proofs.short_utf8.Statement.{statement}
 use Rattle.validation.proofs.short_utf8.Tie as tie
@@ -44,22 +42,15 @@ behind : (c : tie.Joined1 Inv-loop μ-loop) → AsciiFrom (c .before .before .ar
 behind c =
     let t = c .before .before .args .text .now in
     ⊎-elim
-    (λ w. rw (w .5) (from-last t 8 (w .0 .taken) (omega (arith, w .3 .ensures, w .4 .taken))))
-    (⊎-elim (λ w. rw (w .5) (from-end t)) (λ w. rw (w .1) (from-end t)))
+    (λ w. rw (w .6) (from-last t 8 (w .3 .taken) (omega (arith, w .4 .ensures, w .5 .taken))))
+    (⊎-elim (λ w. rw (w .6) (from-end t)) (⊎-elim (λ w. rw (w .4) (from-end t)) (λ w. rw (w .1) (from-end t))))
     (c .if1 .came)
 
-ascii-lead-requires : tie.Need-ascii-lead-requires Inv-loop μ-loop
-ascii-lead-requires c κs = search needs
-
 loop-holds : tie.Need-loop-holds Inv-loop μ-loop
-loop-holds c =
-    let t = c .before .before .before .args .text .now in
-    let n = c .ascii-lead .result in
-    let l : n ≤ run ascii t = omega (arith, c .ascii-lead .ensures, lead-le t) in
-    (behind (c .before) .0, isUtf8-front t n (λ k h. ascii-each t _ refl k (omega arith)))
+loop-holds c = (behind c .0, refl)
 
-shared-slice-read-if4 : tie.Need-shared-slice-read-if4 Inv-loop μ-loop
-shared-slice-read-if4 c = search needs
+shared-slice-read-if5 : tie.Need-shared-slice-read-if5 Inv-loop μ-loop
+shared-slice-read-if5 c = search needs
 
 add-at : tie.Need-add-at Inv-loop μ-loop
 add-at c = search needs
@@ -70,8 +61,8 @@ loop-less c = search needs
 loop-again : tie.Need-loop-again Inv-loop μ-loop
 loop-again c =
     let b = c .before .before .before in
-    let t = b .before .before .before .before .args .text .now in
-    let one = len-one t (b .loop .at) (search needs) (c .if4 .taken) in
+    let t = b .before .before .before .args .text .now in
+    let one = len-one t (b .loop .at) (search needs) (c .if5 .taken) in
     (b .loop .inv .0, isUtf8-char t (b .loop .at) 1 one (λ e. omega arith) .2 ∙ b .loop .inv .1)
 
 valid-len-requires : tie.Need-valid-len-requires Inv-loop μ-loop
@@ -80,17 +71,17 @@ valid-len-requires c κs = search needs
 returns-2 : tie.Need-returns-2 Inv-loop μ-loop
 returns-2 c =
     let b = c .before .before .before .before .before in
-    let t = b .before .before .before .before .args .text .now in
-    sym (isUtf8-bad t (b .loop .at) _ (c .before .valid-len .ensures) (search needs) (c .if5 .taken)) ∙ b .loop .inv .1
+    let t = b .before .before .before .args .text .now in
+    sym (isUtf8-bad t (b .loop .at) _ (c .before .valid-len .ensures) (search needs) (c .if6 .taken)) ∙ b .loop .inv .1
 
 -- the character that a turn finds
-found : (c : tie.Else5 Inv-loop μ-loop) → let b = c .before .before .before .before .before in
-    let t = b .before .before .before .before .args .text .now in
+found : (c : tie.Else6 Inv-loop μ-loop) → let b = c .before .before .before .before .before in
+    let t = b .before .before .before .args .text .now in
     let n = c .before .valid-len .result in
     (0 < n) × (b .loop .at + n ≤ length t) × (isUtf8 (drop (b .loop .at + n) t) ≡ isUtf8 (drop (b .loop .at) t))
 found c =
     let b = c .before .before .before .before .before in
-    isUtf8-char (b .before .before .before .before .args .text .now) (b .loop .at) _ (c .before .valid-len .ensures) (c .if5 .left)
+    isUtf8-char (b .before .before .before .args .text .now) (b .loop .at) _ (c .before .valid-len .ensures) (c .if6 .left)
 
 add-at-2 : tie.Need-add-at-2 Inv-loop μ-loop
 add-at-2 c = omega (arith, found c)
@@ -102,7 +93,7 @@ loop-again-2 : tie.Need-loop-again-2 Inv-loop μ-loop
 loop-again-2 c = let i = c .before .before .before .before .before .loop .inv in (i .0, found c .2 ∙ i .1)
 
 returns-3 : tie.Need-returns-3 Inv-loop μ-loop
-returns-3 c = let b = c .before in from-utf8 _ _ _ (behind (b .before .before)) (c .loop-test .left) ∙ b .loop .inv .1
+returns-3 c = let b = c .before in from-utf8 _ _ _ (behind (b .before)) (c .loop-test .left) ∙ b .loop .inv .1
 
 pub short-utf8-spec : {M : Type 1} → statement M
 short-utf8-spec =
@@ -114,9 +105,8 @@ short-utf8-spec =
     returns
     sub-last
     highest-eight-requires
-    ascii-lead-requires
     loop-holds
-    shared-slice-read-if4
+    shared-slice-read-if5
     add-at
     loop-less
     loop-again
