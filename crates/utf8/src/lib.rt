@@ -4,7 +4,7 @@ ghost use Prim.Native.Nat.{_≤_};
 ghost use lib.ListN.{length, drop};
 ghost use Rattle.buffer.specs.Buffer.{Wrote};
 ghost use Rattle.utf8.specs.Utf8.{Scalar, encode};
-ghost use Rattle.utf8.specs.Decode.{lengthFrom, decode2, decode3, decode4, decode};
+ghost use Rattle.utf8.specs.Decode.{lengthFrom, decode2, decode3, decode4, decode, onlyChar};
 ghost use Rattle.utf8.specs.Cut.{tail, isBoundary, lastLen};
 
 // The character at a place of a text, with its length in bytes, or none.
@@ -106,13 +106,14 @@ pub fn decode_char(text: &[u8], at: usize) -> Decoded
         return Decoded::Bad;
     }
     let first = text[at];
-    let n = char_len(first);
-    if n == 1 {
+    // most characters are ASCII
+    if first < 0x80 {
         return Decoded::Char {
             scalar: wide(first),
             len: 1,
         };
     }
+    let n = char_len(first);
     if text.len() - at < n {
         return Decoded::Bad;
     }
@@ -126,6 +127,28 @@ pub fn decode_char(text: &[u8], at: usize) -> Decoded
         return four(first, text[at + 1], text[at + 2], text[at + 3]);
     }
     Decoded::Bad
+}
+
+// The character that a text is, where it is one and nothing else.
+pub fn only_char(text: &[u8]) -> Decoded
+    ensures { λ r. ⌜ r ≡ onlyChar (now (text .entry)) ⌝ }
+{
+    if text.len() == 0 {
+        return Decoded::Bad;
+    }
+    let first = text[0];
+    if char_len(first) != text.len() {
+        return Decoded::Bad;
+    }
+    match text.len() {
+        1 => Decoded::Char {
+            scalar: wide(first),
+            len: 1,
+        },
+        2 => two(first, text[1]),
+        3 => three(first, text[1], text[2]),
+        _ => four(first, text[1], text[2], text[3]),
+    }
 }
 
 fn wide(b: u8) -> u32
