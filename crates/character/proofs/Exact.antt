@@ -49,13 +49,13 @@ plain-high v h = record {
 }
 
 -- the first byte is the character, or both are above 127
-first-byte : (v : ℕ) (r : List ℕ) → (getD (encode v ++ r) 0 0 ≡ v) ⊎ ((0x80 ≤ v) × (0x80 ≤ getD (encode v ++ r) 0 0))
+pub first-byte : (v : ℕ) (r : List ℕ) → (getD (encode v ++ r) 0 0 ≡ v) ⊎ ((0x80 ≤ v) × (0x80 ≤ getD (encode v ++ r) 0 0))
 first-byte v r =
     by-row v (λ l. (getD (l ++ r) 0 0 ≡ v) ⊎ ((0x80 ≤ v) × (0x80 ≤ getD (l ++ r) 0 0)))
     (λ h. inl refl) (λ g h. inr (g, omega arith)) (λ g h. inr (omega arith, omega arith)) (λ g. inr (omega arith, omega arith))
 
 -- so both are plain or none is
-plain-char : (v b : ℕ) → (b ≡ v) ⊎ ((0x80 ≤ v) × (0x80 ≤ b)) → Plain b → Plain v
+pub plain-char : (v b : ℕ) → (b ≡ v) ⊎ ((0x80 ≤ v) × (0x80 ≤ b)) → Plain b → Plain v
 plain-char v b (inl e) p = subst Plain e p
 plain-char v b (inr h) p = plain-high v (h .0)
 

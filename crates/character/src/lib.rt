@@ -7,11 +7,13 @@ use escape::Escape;
 use escape::Unescaped;
 use single_quote::Inner;
 use single_quote::Quote;
+use utf8::Decoded;
 ghost use mathlib.Core.Path.{_≡_};
 ghost use Prim.Native.Nat.{_≤_, _<_};
 ghost use lib.ListN.{length};
 ghost use Rattle.err.specs.Reading.{outcomeOf};
 ghost use Rattle.single_quote.specs.Content.{innerOf};
+ghost use Rattle.character.specs.Alone.{bare, aloneIn};
 ghost use Rattle.character.specs.Single.{singleOf, suffixedAt, closedAt, scalarOf, escapedAt, firstAt, singleAt, readBy};
 
 // The value and where the suffix starts, or why a text is no such literal.
@@ -101,6 +103,39 @@ fn first(text: &[u8], at: usize, q: Quote) -> Inner
         return escaped(text, at, q);
     }
     single_quote::plain(text, at, q)
+}
+
+// Whether the first byte between the quotes starts a character that stands for itself.
+fn is_bare(b: u8) -> bool
+    ensures { λ r. ⌜ r ≡ bare b ⌝ }
+{
+    if b == b'\'' {
+        return false;
+    }
+    if b == b'\\' {
+        return false;
+    }
+    !single_quote::is_special(b)
+}
+
+// The character of a text that is a quote, a character that stands for itself, and a quote; none of another text.
+pub fn alone(text: &[u8]) -> Decoded
+    ensures { λ r. ⌜ r ≡ aloneIn (now (text .entry)) ⌝ }
+{
+    if text.len() < 3 {
+        return Decoded::Bad;
+    }
+    if text[0] != b'\'' {
+        return Decoded::Bad;
+    }
+    let last = text.len() - 1;
+    if text[last] != b'\'' {
+        return Decoded::Bad;
+    }
+    if !is_bare(text[1]) {
+        return Decoded::Bad;
+    }
+    utf8::only_char(&text[1..last])
 }
 
 // Of a text that starts with the quote.

@@ -1,14 +1,18 @@
 -- A text that is one character and nothing else: what its first byte says of its length.
 -- Assumes nothing.
-use mathlib.Core.Path.{_≡_, refl, sym, _∙_}
-use mathlib.Core.List.{List, [], _∷_}
+use mathlib.Core.Path.{_≡_, refl, sym, ap, _∙_, subst}
+use mathlib.Core.Bool.{Bool, true, false, cond}
+use mathlib.Core.List.{List, [], _∷_, _++_, append-nil}
 use Prim.Native.Nat.{ℕ, _+_, _*_, _/_, _%_, _≤_, _<_}
 use native.Mathlib.Omega.{arith}
-use lib.ListN.{length, getD}
-use borrow.Author.Tests.{eq-eqb, ne-eqb, lt-ltb}
+use lib.Dec.{eqb}
+use lib.ListN.{length, getD, drop, drop-of-length-le}
+use borrow.Author.Tests.{eq-eqb, ne-eqb, lt-ltb, eqb-true}
 use Rattle.scan.proofs.Cases.{cond-lt, cond-eq}
+use Rattle.utf8.specs.Utf8.{Scalar, encode}
+use Rattle.utf8.proofs.Laws.{Found, decode-found}
 use Rattle.utf8.proofs.At.{decode-one, decode-two, decode-three, decode-four}
-use Rattle.utf8.specs.Decode.{lengthFrom, decode2, chosen3, decode3, chosen4, decode4, rest2, rest3, rest4, decodeBy, decode, wholeOf, onlyChar}
+use Rattle.utf8.specs.Decode.{lengthFrom, decode2, chosen3, decode3, chosen4, decode4, rest2, rest3, rest4, decodeBy, decode, lenOf, wholeOf, onlyChar}
 use Rattle.utf8.specs.declared.Decoded.{Decoded}
 use Rattle.utf8.specs.declared.Decoded.the-variants.{Char, Bad}
 
@@ -132,3 +136,28 @@ module _ (t : List ℕ) (n : ℕ) (is : n ≡ lengthFrom (getD t 0 0)) (all : n 
 
   pub only-four : 3 < length t → onlyChar t ≡ decode4 (getD t 0 0) (getD t 1 0) (getD t 2 0) (getD t 3 0)
   only-four h = only-is t n is all ∙ decode-four t 0 n (omega arith) is (omega (arith, length-most (getD t 0 0) n is))
+
+-- ---- a text that is one character is its encoding
+
+abbrev NoChar : Decoded → Type 0
+NoChar (Char s n) = ⊥
+NoChar Bad = Unit {0}
+
+-- a character that passes a test was there
+pub char-if : (b : Bool) (d : Decoded) {s n : ℕ} → cond b d Bad ≡ Char s n → (b ≡ true) × (d ≡ Char s n)
+char-if true d e = (refl, e)
+char-if false d e = absurd (subst NoChar e tt)
+
+pub only-found : (t : List ℕ) (s n : ℕ) → onlyChar t ≡ Char s n → Scalar s × (t ≡ encode s)
+unfolding onlyChar
+only-found t s n e = go (decode t) refl e
+  where
+    go : (d : Decoded) → decode t ≡ d → wholeOf (length t) d ≡ Char s n → Scalar s × (t ≡ encode s)
+    go (Char s' k) f h =
+        let p = char-if (eqb k (length t)) (Char s' k) h in
+        let g : Found t (Char s n) = subst (λ (d : Decoded). Found t d) (f ∙ p .1) (decode-found t) in
+        let k-is : k ≡ n = ap lenOf (p .1) in
+        let all : length t ≤ n = omega (arith, eqb-true k (length t) (p .0), k-is) in
+        let rest : drop n t ≡ [] = drop-of-length-le t all in
+        (g .0, sym (g .1) ∙ ap (λ (l : List ℕ). encode s ++ l) rest ∙ append-nil (encode s))
+    go Bad f h = absurd (subst NoChar h tt)
