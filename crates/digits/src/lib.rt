@@ -76,14 +76,15 @@ fn digits_len(s: &[u8], base: u8) -> usize
     i + parse::run_len(&s[i..], ClassSet::Digits(base))
 }
 
-// How many digits below a base and `_` stand at the front. A short run pays neither for a block nor for a copy of the table.
+// How many digits below a base and `_` stand at the front. A short run pays neither for a block nor for a copy of the table: 32 bytes hold the
+// digits of the largest u64, hexadecimal, with `_` between them.
 pub fn end_digits(s: &[u8], base: u8) -> usize
     requires { ⌜ base ≤ 16 ⌝ }
     ensures { λ r. ⌜ r ≡ run (digit base) (now (s .entry)) ⌝ }
 {
     let mut i = 0;
     while i < s.len() {
-        if i == 16 {
+        if i == 32 {
             return i + digits_len(&s[i..], base);
         }
         if !is_digit_or_underscore(s[i], base) {
