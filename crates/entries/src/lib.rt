@@ -39,14 +39,19 @@ fn entry_for(text: &[u8]) -> u64
         return 2;
     }
     let b = text[0];
+    // most texts are strings
+    if b == b'"' {
+        return 5;
+    }
+    if b == b'\'' {
+        return 4;
+    }
     if parse::is_decimal(b) {
         return number_entry(text);
     }
     match b {
         b'f' => 1,
         b't' => 1,
-        b'\'' => 4,
-        b'"' => 5,
         b'r' => 5,
         b'b' => b_entry(text),
         b'c' => 8,
