@@ -1,9 +1,10 @@
--- The highest byte of a part of a text, found by its two halves, and of a short text, found by its two ends.
+-- The highest byte of a part of a text, found by its two halves, of a short text, found by its two ends, and of at most three bytes.
 -- Assumes nothing.
 use mathlib.Core.Path.{_≡_, refl, _∙_}
 use mathlib.Core.List.{List, [], _∷_, _++_}
-use Prim.Native.Nat.{ℕ, _+_, _-_, _≤_, _<_, max}
+use Prim.Native.Nat.{ℕ, _+_, _-_, _/_, _≤_, _<_, max}
 use native.Mathlib.Omega.{arith}
+use lib.Dec.{ltb}
 use lib.ListN.{length, getD, take, drop}
 use lib.Seq.{drop-cons, drop-drop, take-length, take-add}
 use Rattle.block_validation.specs.HighBytes.{highestFrom}
@@ -34,7 +35,7 @@ ends s k r e =
     let whole : highestFrom 0 s ≡ highestIn 0 (k + (r + k)) s = rw (← e, take-length) in
     omega (arith, whole, by-halves k (r + k) s, by-halves r k (drop k s), by-halves k r s)
 
-pub highest-ends : (s : List ℕ) (n : ℕ) → n ≤ length s → length s ≤ n + n
+highest-ends : (s : List ℕ) (n : ℕ) → n ≤ length s → length s ≤ n + n
     → max (highestIn (length s - n) n s) (highestIn 0 n s) ≡ highestFrom 0 s
 highest-ends s n h l =
     let k = length s - n in
@@ -42,3 +43,21 @@ highest-ends s n h l =
     let front : k + r ≡ n = omega arith in
     let back : r + k ≡ n = omega arith in
     rw (front, back) at (ends s k r (omega arith))
+
+-- what was found at the two ends tells whether the text is ASCII
+pub ascii-ends : (s : List ℕ) (n : ℕ) {a b r : ℕ} → n ≤ length s → length s ≤ n + n
+    → a ≡ highestIn (length s - n) n s → b ≡ highestIn 0 n s → r ≡ max a b → ltb r 128 ≡ ltb (highestFrom 0 s) 128
+ascii-ends s n h l back front e = rw (e, back, front, highest-ends s n h l)
+
+-- of no byte, and of one to three: the first, the middle and the last
+pub highest-none : (s : List ℕ) → length s ≡ 0 → 0 ≡ highestFrom 0 s
+highest-none [] h = refl
+highest-none (a ∷ s) h = absurd (omega arith)
+
+pub highest-few : (s : List ℕ) → (length s ≡ 0 → ⊥) → length s < 4
+    → max (max (getD s 0 0) (getD s (length s / 2) 0)) (getD s (length s - 1) 0) ≡ highestFrom 0 s
+highest-few [] h l = absurd (h refl)
+highest-few (a ∷ []) h l = omega arith
+highest-few (a ∷ b ∷ []) h l = omega arith
+highest-few (a ∷ b ∷ c ∷ []) h l = omega arith
+highest-few (a ∷ b ∷ c ∷ d ∷ s) h l = absurd (omega arith)

@@ -62,15 +62,12 @@ fn four_len(text: &[u8], at: usize, first: u8, second: u8) -> usize
     if has_tail(text, at + 3) { 4 } else { 0 }
 }
 
-// How many bytes the character at an offset has, by the ranges of its first two bytes; 0 where there is none.
+// How many bytes the character at the offset of a byte above 127 has, by the ranges of its first two bytes; 0 where there is none.
 fn valid_len(text: &[u8], at: usize) -> usize
-    requires { ⌜ at < length (now text) ⌝ }
+    requires { ⌜ (at < length (now text)) × (0x80 ≤ getD (now text) at 0) ⌝ }
     ensures { λ r. ⌜ r ≡ lenOf (decode (drop at (now (text .entry)))) ⌝ }
 {
     let first = text[at];
-    if first < 0x80 {
-        return 1;
-    }
     if first < 0xC2 {
         return 0;
     }
@@ -122,12 +119,27 @@ fn highest_sixteen(s: &[u8], at: usize) -> u8
     scan::larger(highest_eight(s, at), highest_eight(s, at + 8))
 }
 
-// Whether a text of four bytes or more is ASCII. Up to 32 bytes, the first and the last four, eight or sixteen are all there are. The last are named
-// first: the other way round the compiler makes two vectors and takes both apart.
+// The highest byte of a text of at most three: its first, its middle and its last are all there are.
+fn highest_few(s: &[u8]) -> u8
+    requires { ⌜ length (now s) < 4 ⌝ }
+    ensures { λ r. ⌜ r ≡ highestFrom 0 (now (s .entry)) ⌝ }
+{
+    if s.len() == 0 {
+        return 0;
+    }
+    let middle = s.len() / 2;
+    let last = s.len() - 1;
+    scan::larger(scan::larger(s[0], s[middle]), s[last])
+}
+
+// Whether a text is ASCII. Up to three bytes, the first, the middle and the last are all there are; up to 32 bytes, the first and the last four,
+// eight or sixteen. The last are named first: the other way round the compiler makes two vectors and takes both apart.
 fn is_ascii(text: &[u8]) -> bool
-    requires { ⌜ 4 ≤ length (now text) ⌝ }
     ensures { λ r. ⌜ r ≡ ltb (highestFrom 0 (now (text .entry))) 128 ⌝ }
 {
+    if text.len() < 4 {
+        return highest_few(text) < 128;
+    }
     if text.len() < 8 {
         let last = text.len() - 4;
         return scan::larger(highest_four(text, last), highest_four(text, 0)) < 128;
@@ -148,16 +160,14 @@ fn is_ascii(text: &[u8]) -> bool
 fn short_utf8(text: &[u8]) -> bool
     ensures { λ r. ⌜ r ≡ isUtf8 (now (text .entry)) ⌝ }
 {
+    if is_ascii(text) {
+        return true;
+    }
     let mut stop = text.len();
-    if 4 <= text.len() {
-        if is_ascii(text) {
-            return true;
-        }
-        if 8 <= text.len() {
-            let last = text.len() - 8;
-            if highest_eight(text, last) < 128 {
-                stop = last;
-            }
+    if 8 <= text.len() {
+        let last = text.len() - 8;
+        if highest_eight(text, last) < 128 {
+            stop = last;
         }
     }
     let mut at = 0;

@@ -28,8 +28,8 @@ is-ascii-requires c κs = search needs
 
 returns : tie.Need-returns Inv-loop μ-loop
 returns c =
-    let t = c .before .before .before .before .args .text .now in
-    isUtf8-ascii t (λ k h. omega (arith, ltb-true (highestFrom 0 t) 128 (sym (c .before .is-ascii .ensures) ∙ c .if2 .taken), highest-above 0 t k h))
+    let t = c .before .before .before .args .text .now in
+    isUtf8-ascii t (λ k h. omega (arith, ltb-true (highestFrom 0 t) 128 (sym (c .before .is-ascii .ensures) ∙ c .if1 .taken), highest-above 0 t k h))
 
 sub-last : tie.Need-sub-last Inv-loop μ-loop
 sub-last c = search needs
@@ -38,19 +38,19 @@ highest-eight-requires : tie.Need-highest-eight-requires Inv-loop μ-loop
 highest-eight-requires c κs = search needs
 
 -- what the loop does not go through is ASCII
-behind : (c : tie.Joined1 Inv-loop μ-loop) → AsciiFrom (c .before .before .args .text .now) (c .if1 .stop)
+behind : (c : tie.Joined2 Inv-loop μ-loop) → AsciiFrom (c .before .before .before .before .args .text .now) (c .if2 .stop)
 behind c =
-    let t = c .before .before .args .text .now in
+    let t = c .before .before .before .before .args .text .now in
     ⊎-elim
-    (λ w. rw (w .6) (from-last t 8 (w .3 .taken) (omega (arith, w .4 .ensures, w .5 .taken))))
-    (⊎-elim (λ w. rw (w .6) (from-end t)) (⊎-elim (λ w. rw (w .4) (from-end t)) (λ w. rw (w .1) (from-end t))))
-    (c .if1 .came)
+    (λ w. rw (w .3) (from-last t 8 (w .0 .taken) (omega (arith, w .1 .ensures, w .2 .taken))))
+    (⊎-elim (λ w. rw (w .3) (from-end t)) (λ w. rw (w .1) (from-end t)))
+    (c .if2 .came)
 
 loop-holds : tie.Need-loop-holds Inv-loop μ-loop
 loop-holds c = (behind c .0, refl)
 
-shared-slice-read-if5 : tie.Need-shared-slice-read-if5 Inv-loop μ-loop
-shared-slice-read-if5 c = search needs
+shared-slice-read-if4 : tie.Need-shared-slice-read-if4 Inv-loop μ-loop
+shared-slice-read-if4 c = search needs
 
 add-at : tie.Need-add-at Inv-loop μ-loop
 add-at c = search needs
@@ -61,8 +61,8 @@ loop-less c = search needs
 loop-again : tie.Need-loop-again Inv-loop μ-loop
 loop-again c =
     let b = c .before .before .before in
-    let t = b .before .before .before .args .text .now in
-    let one = len-one t (b .loop .at) (search needs) (c .if5 .taken) in
+    let t = b .before .before .before .before .before .args .text .now in
+    let one = len-one t (b .loop .at) (search needs) (c .if4 .taken) in
     (b .loop .inv .0, isUtf8-char t (b .loop .at) 1 one (λ e. omega arith) .2 ∙ b .loop .inv .1)
 
 valid-len-requires : tie.Need-valid-len-requires Inv-loop μ-loop
@@ -71,17 +71,17 @@ valid-len-requires c κs = search needs
 returns-2 : tie.Need-returns-2 Inv-loop μ-loop
 returns-2 c =
     let b = c .before .before .before .before .before in
-    let t = b .before .before .before .args .text .now in
-    sym (isUtf8-bad t (b .loop .at) _ (c .before .valid-len .ensures) (search needs) (c .if6 .taken)) ∙ b .loop .inv .1
+    let t = b .before .before .before .before .before .args .text .now in
+    sym (isUtf8-bad t (b .loop .at) _ (c .before .valid-len .ensures) (search needs) (c .if5 .taken)) ∙ b .loop .inv .1
 
 -- the character that a turn finds
-found : (c : tie.Else6 Inv-loop μ-loop) → let b = c .before .before .before .before .before in
-    let t = b .before .before .before .args .text .now in
+found : (c : tie.Else5 Inv-loop μ-loop) → let b = c .before .before .before .before .before in
+    let t = b .before .before .before .before .before .args .text .now in
     let n = c .before .valid-len .result in
     (0 < n) × (b .loop .at + n ≤ length t) × (isUtf8 (drop (b .loop .at + n) t) ≡ isUtf8 (drop (b .loop .at) t))
 found c =
     let b = c .before .before .before .before .before in
-    isUtf8-char (b .before .before .before .args .text .now) (b .loop .at) _ (c .before .valid-len .ensures) (c .if6 .left)
+    isUtf8-char (b .before .before .before .before .before .args .text .now) (b .loop .at) _ (c .before .valid-len .ensures) (c .if5 .left)
 
 add-at-2 : tie.Need-add-at-2 Inv-loop μ-loop
 add-at-2 c = omega (arith, found c)
@@ -106,7 +106,7 @@ short-utf8-spec =
     sub-last
     highest-eight-requires
     loop-holds
-    shared-slice-read-if5
+    shared-slice-read-if4
     add-at
     loop-less
     loop-again

@@ -3,7 +3,7 @@
 use mathlib.Core.Path.{sym, _∙_}
 use native.Mathlib.Omega.{arith}
 use borrow.Author.Needs.{needs}
-use Rattle.block_validation.proofs.Ranges.{len-one, len-no-first, len-last}
+use Rattle.block_validation.proofs.Ranges.{len-no-first, len-last}
 use Rattle.validation.proofs.Pairs.{pair-at, len-no-tail, len-two}
 use Rattle.validation.proofs.valid_len.Statement.{statement}
 use Rattle.validation.proofs.valid_len.Tie as tie
@@ -12,16 +12,13 @@ shared-slice-read-first : tie.Need-shared-slice-read-first
 shared-slice-read-first c = search needs
 
 returns : tie.Need-returns
-returns c = len-one _ _ (c .before .before .before .pre) (c .if1 .taken)
+returns c = let p = c .before .before .before .pre in len-no-first _ _ (p .0) (p .1) (c .if1 .taken)
+
+sub-if2 : tie.Need-sub-if2
+sub-if2 c = search needs
 
 returns-2 : tie.Need-returns-2
-returns-2 c = len-no-first _ _ (c .before .before .before .before .pre) (c .before .if1 .left) (c .if2 .taken)
-
-sub-if3 : tie.Need-sub-if3
-sub-if3 c = search needs
-
-returns-3 : tie.Need-returns-3
-returns-3 c = len-last _ _ (c .before .before .before .before .before .pre) (c .before .before .if1 .left) (omega arith)
+returns-2 c = let p = c .before .before .before .before .pre in len-last _ _ (p .0) (p .1) (omega arith)
 
 add-second : tie.Need-add-second
 add-second c = search needs
@@ -32,28 +29,28 @@ shared-slice-read-second c = search needs
 is-tail-requires : tie.Need-is-tail-requires
 is-tail-requires c κs = search needs
 
+returns-3 : tie.Need-returns-3
+returns-3 c =
+    let b = c .before .before .before .before .before in
+    let s = b .before .before .before in
+    len-two (pair-at (s .args .text .now) (s .args .at) (omega arith)) (b .if1 .left) (c .before .before .if3 .taken) (sym (c .before .is-tail .ensures) ∙ c .if4 .taken)
+
 returns-4 : tie.Need-returns-4
 returns-4 c =
-    let b = c .before .before .before .before .before in
-    let s = b .before .before .before .before in
-    len-two (pair-at (s .args .text .now) (s .args .at) (omega arith)) (b .if2 .left) (c .before .before .if4 .taken) (sym (c .before .is-tail .ensures) ∙ c .if5 .taken)
-
-returns-5 : tie.Need-returns-5
-returns-5 c =
-    let s = c .before .before .before .before .before .before .before .before .before in
-    len-no-tail (pair-at (s .args .text .now) (s .args .at) (omega arith)) (omega arith) (sym (c .before .is-tail .ensures) ∙ c .if5 .left)
+    let s = c .before .before .before .before .before .before .before .before in
+    len-no-tail (pair-at (s .args .text .now) (s .args .at) (omega arith)) (omega arith) (sym (c .before .is-tail .ensures) ∙ c .if4 .left)
 
 three-len-requires : tie.Need-three-len-requires
 three-len-requires c κs = search needs
 
-returns-6 : tie.Need-returns-6
-returns-6 c = search needs
+returns-5 : tie.Need-returns-5
+returns-5 c = search needs
 
 four-len-requires : tie.Need-four-len-requires
 four-len-requires c κs = search needs
 
-returns-7 : tie.Need-returns-7
-returns-7 c = search needs
+returns-6 : tie.Need-returns-6
+returns-6 c = search needs
 
 pub valid-len-spec : {M : Type 1} → statement M
 valid-len-spec =
@@ -61,15 +58,14 @@ valid-len-spec =
     (tie.spec
     shared-slice-read-first
     returns
+    sub-if2
     returns-2
-    sub-if3
-    returns-3
     add-second
     shared-slice-read-second
     is-tail-requires
+    returns-3
     returns-4
-    returns-5
     three-len-requires
-    returns-6
+    returns-5
     four-len-requires
-    returns-7)
+    returns-6)
