@@ -7,22 +7,22 @@ use Prim.Native.Nat.{ℕ, _+_, _-_, _≤_, _<_}
 use native.Mathlib.Omega.{arith}
 use borrow.Author.Tests.{eqb-true, eqb-false, ne-eqb}
 use lib.Dec.{eqb}
-use lib.ListN.{length, getD, drop, length-drop}
+use lib.ListN.{length, getD, take, drop, length-drop}
 use lib.Seq.{drop-drop, getD-drop}
 use Rattle.scan.specs.Run.{run, Stops}
 use Rattle.scan.proofs.Bytes.{byte-inside}
-use Rattle.scan.proofs.Cases.{by-lt}
 use Rattle.buffer.specs.Buffer.{Wrote}
 use Rattle.parse.specs.Sets.{blank}
 use Rattle.utf8.specs.Cut.{lastLen}
-use Rattle.escape.specs.Escape.{bytesOf, Valid, letterOf, escapeOf}
-use Rattle.escape_code.specs.Code.{codedLen, codedValue}
+use Rattle.escape.specs.Allows.{allowNul}
+use Rattle.escape.specs.Escape.{value, bytesOf, Valid, letterOf, escapeOf}
+use Rattle.escape_code.specs.Code.{escapeCode, codedLen, codedValue}
 use Rattle.escape_code.specs.At.{letterAt, xAt, uAt}
 use Rattle.escape.specs.declared.Allowed.{Allowed}
 use Rattle.escape.specs.declared.Unescaped.{Unescaped}
 use Rattle.escape.specs.declared.Unescaped.the-variants.{Nothing, Byte}
 use Rattle.escape_code.proofs.Codes.{code-some}
-use Rattle.escape_code.proofs.At.{letter-escape, x-escape, u-escape, none-escape}
+use Rattle.escape_code.proofs.At.{letter-escape, x-escape, u-escape, nul-escape, none-escape}
 use Rattle.plain_run.specs.Plain.{plainByte}
 use Rattle.body.specs.Step.{Next, piece, stop, ofEscape, backslashOf, stepOf}
 use Rattle.body.specs.Code.{nextCode, codeOf, Stopped}
@@ -105,16 +105,19 @@ module _ (k : Allowed) (s : List ℕ) (i : ℕ) (e : getD s i 0 ≡ 92) where
     within : end ≤ length s
     within = omega arith
 
+    escape-arm : (getD s (i + 1) 0 ≡ 10 → ⊥) → (n : ℕ) (u : Unescaped) → value u n ≡ escapeOf k (take (end - i) (drop i s)) → Arm k s i (i + n) (bytesOf u)
+    escape-arm not-break n u is =
+        is-piece n u
+        (sym (steps.is-escape k (drop i s) (codes.other k s i at-in e not-break end at-end))
+        ∙ ap (λ (x : List ℕ). ofEscape (escapeOf k x)) (codes.seen k s i at-in e not-break end at-end)
+        ∙ ap ofEscape (sym is))
+
     -- of one letter
     pub letter-arm : (l : ℕ) → l ≡ letterAt s i end → (l ≡ 0 → ⊥) → Arm k s i (i + 2) (l ∷ [])
     unfolding letterOf
     letter-arm l is z =
         let t = letter-escape k s i end within l is z in
-        let not-break : getD s (i + 1) 0 ≡ 10 → ⊥ = λ x. z (t .0 ∙ ap letterOf x) in
-        is-piece 2 (Byte l)
-        (sym (steps.is-escape k (drop i s) (codes.other k s i at-in e not-break end at-end))
-        ∙ ap (λ (x : List ℕ). ofEscape (escapeOf k x)) (codes.seen k s i at-in e not-break end at-end)
-        ∙ ap ofEscape (sym (t .1)))
+        escape-arm (λ x. z (t .0 ∙ ap letterOf x)) 2 (Byte l) (t .1)
 
     -- by `x`
     pub x-arm : (c : ℕ) → c ≡ xAt k s i end → (c ≡ 0 → ⊥) → Coded k s i c (i + 4) × (length (bytesOf (codedValue c)) ≡ 1)
@@ -130,19 +133,35 @@ module _ (k : Allowed) (s : List ℕ) (i : ℕ) (e : getD s i 0 ≡ 92) where
         let t = u-escape k s i end within c is z in
         code-arm c (codes.at-escape k s i at-in e (λ g. omega (arith, t .0)) end at-end c (t .1)) z
 
-    -- what is none of these, and not `\0`, ends the body
-    pub other-arm : breakEnd s i ≡ 0 → letterAt s i end ≡ 0 → xAt k s i end ≡ 0 → uAt k s i end ≡ 0 → (getD s (i + 1) 0 ≡ 48 → ⊥) → Arm k s i 0 []
-    unfolding breakEnd
-    other-arm b l x u z = none-arm (sym (by-test (eqb (getD s (i + 1) 0) 10) (eqb (i + 2 + run blank (drop (i + 2) s)) (length s)) refl refl b))
-      where
-        by-test : (t o : Bool) → eqb (getD s (i + 1) 0) 10 ≡ t → eqb (i + 2 + run blank (drop (i + 2) s)) (length s) ≡ o
-            → cond t (cond o 0 (i + 2 + run blank (drop (i + 2) s))) 0 ≡ 0 → 0 ≡ codeOf k (drop i s)
-        by-test true true p q h = codes.at-open k s i at-in e (eqb-true _ _ p) _ refl (eqb-true _ _ q)
-        by-test true false p q h = absurd (omega arith)
-        by-test false o p q h =
-            let other = eqb-false _ _ p in
-            by-lt (i + 1) end (λ g. codes.at-escape k s i at-in e other end at-end 0 (none-escape k s i end within g l x u z))
-            (λ g. codes.at-cut k s i at-in e other end at-end g)
+    -- `\0`
+    module _ (h : i + 1 < end) (z : getD s (i + 1) 0 ≡ 48) where
+      pub nul-arm : allowNul k ≡ true → Arm k s i (i + 2) (0 ∷ [])
+      nul-arm a = escape-arm (λ x. omega arith) 2 (Byte 0) (rw a at (nul-escape k s i end within h z))
+
+      pub barred-arm : allowNul k ≡ false → Arm k s i 0 []
+      barred-arm a =
+          none-arm (sym (codes.at-escape k s i at-in e (λ x. omega arith) end at-end 0 (ap escapeCode (rw a at (nul-escape k s i end within h z)))))
+
+    -- where nothing is dropped, what is no escape ends the body
+    module _ (b : breakEnd s i ≡ 0) where
+      no-escape : ((getD s (i + 1) 0 ≡ 10 → ⊥) → 0 ≡ codeOf k (drop i s)) → Arm k s i 0 []
+      unfolding breakEnd
+      no-escape f = none-arm (sym (by-test (eqb (getD s (i + 1) 0) 10) (eqb (i + 2 + run blank (drop (i + 2) s)) (length s)) refl refl b))
+        where
+          by-test : (t o : Bool) → eqb (getD s (i + 1) 0) 10 ≡ t → eqb (i + 2 + run blank (drop (i + 2) s)) (length s) ≡ o
+              → cond t (cond o 0 (i + 2 + run blank (drop (i + 2) s))) 0 ≡ 0 → 0 ≡ codeOf k (drop i s)
+          by-test true true p q h = codes.at-open k s i at-in e (eqb-true _ _ p) _ refl (eqb-true _ _ q)
+          by-test true false p q h = absurd (omega arith)
+          by-test false o p q h = f (eqb-false _ _ p)
+
+      -- it has no second byte
+      pub cut-arm : end ≤ i + 1 → Arm k s i 0 []
+      cut-arm h = no-escape (λ other. codes.at-cut k s i at-in e other end at-end h)
+
+      -- or one that starts none
+      pub other-arm : i + 1 < end → letterAt s i end ≡ 0 → xAt k s i end ≡ 0 → uAt k s i end ≡ 0 → (getD s (i + 1) 0 ≡ 48 → ⊥) → Arm k s i 0 []
+      other-arm h l x u z =
+          no-escape (λ other. codes.at-escape k s i at-in e other end at-end 0 (none-escape k s i end within h l x u z))
 
 -- ---- a loop that stands at a backslash
 

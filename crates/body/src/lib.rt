@@ -179,6 +179,11 @@ fn stride_at(s: &[u8], at: usize, end: usize, k: Allowed) -> Stride
     if e != 0 {
         return Stride { next: e, value: 0 };
     }
+    // the escape never sees the text's last character
+    let second = at + 1;
+    if end <= second {
+        return Stride { next: 0, value: 0 };
+    }
     if escape_code::letter_at(s, at, end) != 0 {
         return Stride {
             next: at + 2,
@@ -207,17 +212,16 @@ fn stride_at(s: &[u8], at: usize, end: usize, k: Allowed) -> Stride
         };
     }
     // what is left is `\0`, or refused
-    if scan::byte_at(s, at + 1) != b'0' {
+    if s[second] != b'0' {
         return Stride { next: 0, value: 0 };
     }
-    let c = code_at(s, at, end, k);
-    if c == 0 {
-        return Stride { next: 0, value: 0 };
+    if k.allow_nul() {
+        return Stride {
+            next: at + 2,
+            value: 1,
+        };
     }
-    Stride {
-        next: at + escape_code::code_len(c),
-        value: escape::value_len(escape_code::code_value(c)),
-    }
+    Stride { next: 0, value: 0 }
 }
 
 // Why a quoted body ends where neither a piece nor a byte that stands for itself is: by litrs's steps, of which only those that end it are

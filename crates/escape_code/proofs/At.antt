@@ -86,7 +86,12 @@ module _ (k : Allowed) (s : List ℕ) (i end : ℕ) (size : end ≤ length s) wh
       let u = two .1 ∙ t .1 in
       (t .1, t .2 ∙ ap escapeCode (escapes.is-u k _ (two .0) (ap letterOf u) (λ g. omega arith) (λ g. omega arith) u))
 
-  -- any other is refused, but for `\0`
+  -- `\0`
+  pub nul-escape : i + 1 < end → getD s (i + 1) 0 ≡ 48 → cond (allowNul k) (value (Byte 0) 2) (bad 35 (between 0 2)) ≡ escapeOf k (take (end - i) (drop i s))
+  unfolding escapeOf escapeBy letterOf
+  nul-escape h z = let two = seen-two h in rw (le-ltb _ 2 (two .0), two .1, z)
+
+  -- any other is refused
   pub none-escape : i + 1 < end → letterAt s i end ≡ 0 → xAt k s i end ≡ 0 → uAt k s i end ≡ 0 → (getD s (i + 1) 0 ≡ 48 → ⊥)
       → 0 ≡ escapeCode (escapeOf k (take (end - i) (drop i s)))
   unfolding letterAt byLetter escapeOf escapeBy
