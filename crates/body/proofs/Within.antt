@@ -50,7 +50,7 @@ of-escape-in m n (value u l) p h (a, b, c, d) = (a, omega arith, omega arith, d)
 of-escape-in m n (bad num none) p h r = r p
 of-escape-in m n (bad num (between a e)) p h r = let i = r p in omega (arith, i .0, i .1, i .2 .0, i .2 .1)
 
-backslash-in : (k : Allowed) (s : List ℕ) → 0 < length s → NextIn 1 (length s) (backslashOf k s)
+pub backslash-in : (k : Allowed) (s : List ℕ) → 0 < length s → NextIn 1 (length s) (backslashOf k s)
 unfolding backslashOf
 backslash-in k s h =
     let P : Next → Type 0 = NextIn 1 (length s) in

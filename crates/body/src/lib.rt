@@ -101,7 +101,8 @@ fn backslash(s: &[u8], last: usize, k: Allowed) -> Step
     let e = escape::unescape(&s[..end], k);
     match e {
         Escape::Value(u, n) => Step::Piece(u, n),
-        Escape::Bad(kind, span) => Step::Stop(Ending::Bad(kind, span)),
+        // the span is made anew: a copy of it would wait for its bytes to be stored
+        Escape::Bad(kind, span) => Step::Stop(Ending::Bad(kind, err::offset_span(span, 0))),
     }
 }
 
