@@ -1,4 +1,4 @@
--- A byte that is passed over stands for itself, and where a scan stops at another byte than a quote, the body ends.
+-- A byte that is passed over stands for itself, and where a scan stops at another byte than a quote, or at one that closes, the body ends.
 -- Assumes nothing.
 use mathlib.Core.Path.{_≡_, refl, ap, sym, _∙_}
 use mathlib.Core.Bool.{Bool, true, false, cond, not, _&&_, and-false}
@@ -20,11 +20,13 @@ use Rattle.escape.specs.declared.Allowed.{Allowed}
 use Rattle.escape.specs.declared.Unescaped.the-variants.{Byte}
 use Rattle.body.specs.Code.{Stopped}
 use Rattle.plain_run.specs.Plain.{plainByte}
-use Rattle.body.specs.Step.{piece, rawStepOf}
+use Rattle.body.specs.Step.{close, piece, endOf, rawStepOf}
+use Rattle.body.specs.Body.{rawBody, Measures}
+use Rattle.body.specs.declared.Measured.{Measured}
 use Rattle.body.proofs.Steps as steps
 use Rattle.body.proofs.Bodies.{Passed}
 use Rattle.body.proofs.Runs.{raw-plain-step, plain-stops}
-use Rattle.body.proofs.Raws.{raw-more}
+use Rattle.body.proofs.Raws.{raw-more, raw-measures}
 use Rattle.raw.specs.Scan.{rawPlain, markOf, passes, rawRun}
 use Rattle.raw.proofs.Flags.{scan-in, scan-past, scan-more, scan-stop}
 
@@ -162,7 +164,13 @@ module _ (k : Allowed) (h : ℕ) (s : List ℕ) where
       let there : i + rawRun k h (markOf h) (drop i s) ≡ e = omega arith in
       rw there at (passed-by (rawRun k h (markOf h) (drop i s)) i (omega arith) q)
 
-  -- and ends there, where no quote stands
+  -- and is measured there, where a quote stands with h hashes behind it
+  pub scan-closes : (i e : ℕ) → e ≡ i + rawRun k h (markOf h) (drop i s) → At i → e < length s → getD s e 0 ≡ 34 → h ≤ run (only 35) (drop (e + 1) s)
+      → (m : Measured) → m .at ≡ e → m .len ≡ e → endOf (m .end) ≡ close → Measures (rawBody k h s) m
+  scan-closes i e g q l quote hashes =
+      raw-measures k h (passed-scan i e g q) close (sym (steps.raw-close k h s e l quote (run (only 35) (drop (e + 1) s)) refl hashes))
+
+  -- or ends there, where no quote stands
   pub scan-ends : (i e : ℕ) → e ≡ i + rawRun k h (markOf h) (drop i s) → (getD s e 0 ≡ 34 → ⊥) → Stopped (rawStepOf k h (drop e s))
   scan-ends i e g quote =
       by-lt e (length s)

@@ -186,7 +186,7 @@ fn raw_end(s: &[u8], from: usize, h: usize, mark: u8, k: Allowed) -> usize
 
 // The body of a raw string with h hashes, which are counted at the quotes alone that have the mark behind them. It stands for its own
 // bytes, so that its length is where it ends.
-fn measure_raw(s: &[u8], h: usize, k: Allowed) -> Measured
+fn measure_on(s: &[u8], h: usize, k: Allowed) -> Measured
     requires { ⌜ h ≤ 255 ⌝ }
     ensures { λ r. ⌜ Measures (rawBody k h (now (s .entry))) r ⌝ }
 {
@@ -211,6 +211,28 @@ fn measure_raw(s: &[u8], h: usize, k: Allowed) -> Measured
         }
         i = next;
     }
+}
+
+// The same. A body that closes in its first 32 bytes is told before the loop.
+fn measure_raw(s: &[u8], h: usize, k: Allowed) -> Measured
+    requires { ⌜ h ≤ 255 ⌝ }
+    ensures { λ r. ⌜ Measures (rawBody k h (now (s .entry))) r ⌝ }
+{
+    let stop = scan::nearer(0, 32, s.len());
+    let e = scan_to(s, 0, stop, h, closing_mark(h), k);
+    if e < stop {
+        if s[e] == b'"' {
+            let next = e + 1;
+            if has_hashes(s, next, h) {
+                return Measured {
+                    at: e,
+                    len: e,
+                    end: Ending::Close,
+                };
+            }
+        }
+    }
+    measure_on(s, h, k)
 }
 
 // A text whose hashes start at an offset, behind the `r`.
