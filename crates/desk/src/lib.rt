@@ -81,8 +81,8 @@ fn is_nothing(entry: u64, text: &[u8]) -> bool
     entry == 0
 }
 
-// The reading of a text by entry code, as five numbers: kind, start of suffix and values; or 0, the refusal number and the span. A bool and no
-// bytes are told at once, so that they pay for no call of `read`.
+// The reading of a text by entry code, as five numbers: kind, start of suffix and values; or 0, the refusal number and the span. A bool, no
+// bytes, and a char and nothing else are told at once, so that they pay for no call of `read`.
 #[no_mangle]
 pub extern "C" fn keybasket_read(entry: u64, text: &[u8], answer: &mut [u64; 5])
     ensures { λ r. ⌜ now (answer .exit) ≡ readingNumbers (readAt entry (now (text .entry))) ⌝ }
@@ -101,6 +101,14 @@ pub extern "C" fn keybasket_read(entry: u64, text: &[u8], answer: &mut [u64; 5])
     if is_nothing(entry, text) {
         *answer = [0, 1, 0, 0, 0];
         return;
+    }
+    let alone = literal::char_at(entry, text);
+    match alone {
+        utf8::Decoded::Char { scalar, len } => {
+            *answer = [4, len as u64 + 2, scalar as u64, 0, 0];
+            return;
+        }
+        utf8::Decoded::Bad => {}
     }
     let found = literal::read(entry, text);
     match found {

@@ -19,7 +19,7 @@ ghost use lib.ListN.{length};
 ghost use Rattle.integer_value.specs.Value.{valuedOf};
 ghost use Rattle.err.specs.Reading.{outcomeOf};
 ghost use Rattle.string.specs.Decode.{decodedOf};
-ghost use Rattle.literal.specs.Readings.{quoteIn, kindIn, entryRead, boolAt, readAt};
+ghost use Rattle.literal.specs.Readings.{quoteIn, kindIn, entryRead, boolAt, charAt, readAt};
 ghost use Rattle.literal.specs.Decodes.{kindCoded, decodeAt, bufferAt};
 ghost use Rattle.literal.specs.Values.{valueAt};
 ghost use Rattle.literal.specs.Suffixes.{integerFromSuffix, floatFromSuffix};
@@ -88,6 +88,16 @@ pub fn is_bool_at(code: u64, text: &[u8]) -> bool
         return false;
     }
     boolean::is_bool(text)
+}
+
+// The character of a text that is a char and nothing else, and read as one. Its few bytes tell, so that it pays for no check.
+pub fn char_at(code: u64, text: &[u8]) -> utf8::Decoded
+    ensures { λ r. ⌜ r ≡ charAt code (now (text .entry)) ⌝ }
+{
+    match code {
+        0 | 4 => character::alone(text),
+        _ => utf8::Decoded::Bad,
+    }
 }
 
 // The reading of a text by entry code.
