@@ -1,4 +1,4 @@
--- What is told of a text without reading it: a bool's numbers, and those of no bytes.
+-- What is told of a text without reading it: the numbers of a bool, of no bytes, and of a char and nothing else.
 -- Assumes nothing.
 use mathlib.Core.Path.{_≡_, refl, ap, _∙_}
 use mathlib.Core.Bool.{true, _&&_, and-eq-true-iff}
@@ -11,11 +11,13 @@ use borrow.Author.Tests.{eqb-true}
 use Rattle.err.specs.Outcome.{refused, none}
 use Rattle.scan.specs.Same.{same}
 use Rattle.utf8.specs.Valid.{charsWithin, isUtf8}
+use Rattle.utf8.specs.declared.Decoded.the-variants as decoded
 use Rattle.boolean.specs.Bool.{trueText, isBool}
 use Rattle.boolean.proofs.Laws.{bool-truth}
 use Rattle.input.specs.Checks.{textFault}
-use Rattle.literal.specs.Readings.{anyRead, entryRead, boolAt, readAt}
+use Rattle.literal.specs.Readings.{anyRead, entryRead, boolAt, charAt, readAt}
 use Rattle.literal.proofs.Bools.{bool-read}
+use Rattle.literal.proofs.Chars.{char-read}
 use Rattle.numbers.specs.Numbers.{truthNumber, readingNumbers}
 
 pub bool-numbers : (code : ℕ) (s : List ℕ) → boolAt code s ≡ true → readingNumbers (readAt code s) ≡ 1 ∷ length s ∷ truthNumber (same s trueText) ∷ 0 ∷ 0 ∷ []
@@ -31,3 +33,6 @@ nothing-numbers code [] h =
     let e = eqb-true code 0 (and-eq-true-iff true (eqb code 0) .0 h .1) in
     rw e (ap readingNumbers no-bytes)
 nothing-numbers code (b ∷ s) h = absurd (omega (arith, eqb-true (length (b ∷ s)) 0 (and-eq-true-iff (eqb (length (b ∷ s)) 0) (eqb code 0) .0 h .0)))
+
+pub char-numbers : (code : ℕ) (s : List ℕ) (c n : ℕ) → charAt code s ≡ decoded.Char c n → readingNumbers (readAt code s) ≡ 4 ∷ length s ∷ c ∷ 0 ∷ 0 ∷ []
+char-numbers code s c n h = ap readingNumbers (char-read code s c n h)

@@ -104,8 +104,8 @@ pub extern "C" fn keybasket_read(entry: u64, text: &[u8], answer: &mut [u64; 5])
     }
     let alone = literal::char_at(entry, text);
     match alone {
-        utf8::Decoded::Char { scalar, len } => {
-            *answer = [4, len as u64 + 2, scalar as u64, 0, 0];
+        utf8::Decoded::Char { scalar, .. } => {
+            *answer = [4, text.len() as u64, scalar as u64, 0, 0];
             return;
         }
         utf8::Decoded::Bad => {}
