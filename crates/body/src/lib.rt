@@ -268,11 +268,7 @@ fn measure(s: &[u8], k: Allowed) -> Measured
         if b == b'\\' {
             let t = stride_at(s, i, end, k);
             if t.next == 0 {
-                return Measured {
-                    at: i,
-                    len: n,
-                    end: ending_at(s, i, last, k),
-                };
+                break;
             }
             n += t.value;
             i = t.next;
@@ -280,14 +276,15 @@ fn measure(s: &[u8], k: Allowed) -> Measured
         }
         let e = plain_run::run_end(s, i, k);
         if e == i {
-            return Measured {
-                at: i,
-                len: n,
-                end: ending_at(s, i, last, k),
-            };
+            break;
         }
         n += e - i;
         i = e;
+    }
+    Measured {
+        at: i,
+        len: n,
+        end: ending_at(s, i, last, k),
     }
 }
 

@@ -2,6 +2,7 @@
 -- Assumes nothing.
 use borrow.Author.Needs.{needs}
 use mathlib.Core.Path.{_≡_, refl, sym, _∙_}
+use mathlib.Core.Logic.{⊎-elim}
 use mathlib.Core.List.{List, [], _++_}
 use Prim.Native.Nat.{ℕ, _≤_, _<_, _-_, _+_}
 use native.Mathlib.Omega.{arith}
@@ -130,17 +131,6 @@ returns-2 c =
 stride-at-requires : tie.Need-stride-at-requires Inv-loop μ-loop
 stride-at-requires c κs = let a = turn c in (slash c, (entry a .pre, rw (a .before .last-len .ensures)))
 
-ending-at-requires : tie.Need-ending-at-requires Inv-loop μ-loop
-ending-at-requires c κs =
-    let b = c .before .before in
-    let a = turn (b .before) in
-    (a .before .last-len .ensures, strides.stride-stops _ (a .loop .inv .1) (slash (b .before)) _ (b .stride-at .ensures .0) (c .if4 .taken))
-
-returns-3 : tie.Need-returns-3 Inv-loop μ-loop
-returns-3 c =
-    let i = turn (c .before .before .before .before) .loop .inv in
-    bodies.measures _ 1 (step-in _) (i .1) _ (sym (c .ending-at .ensures)) _ refl (i .2) refl
-
 add-n : tie.Need-add-n Inv-loop μ-loop
 add-n c =
     let d = c .before in
@@ -158,20 +148,6 @@ loop-again c =
 
 run-end-requires : tie.Need-run-end-requires Inv-loop μ-loop
 run-end-requires c κs = c .before .before .before .loop .inv .1 .within
-
-ending-at-requires-2 : tie.Need-ending-at-requires-2 Inv-loop μ-loop
-ending-at-requires-2 c κs =
-    let b = c .before in
-    let o = b .before in
-    let a = run-from b in (
-      a .before .last-len .ensures,
-      strides.other-stops _ (text a) _ (λ e. o .if3 .left (o .before .before .byte-at2 .ensures ∙ e)) (sym (c .if5 .taken) ∙ b .run-end .ensures),
-    )
-
-returns-4 : tie.Need-returns-4 Inv-loop μ-loop
-returns-4 c =
-    let i = run-from (c .before .before) .loop .inv in
-    bodies.measures _ 1 (step-in _) (i .1) _ (sym (c .ending-at2 .ensures)) _ refl (i .2) refl
 
 sub-n : tie.Need-sub-n Inv-loop μ-loop
 sub-n c = run-counted (c .before) .0
@@ -191,6 +167,22 @@ loop-again-2 c =
     let b = c .before in
     (so-far b, ran b, omega (arith, run-counted b .2, run-from b .loop .inv .2))
 
+ending-at-requires : tie.Need-ending-at-requires Inv-loop μ-loop
+ending-at-requires c κs =
+    let a = c .before .before .before in
+    let byte = c .before .before .byte-at2 .ensures in (
+      a .before .last-len .ensures,
+      ⊎-elim
+          (λ w. strides.stride-stops _ (a .loop .inv .1) (sym byte ∙ w .0 .taken) _ (w .1 .ensures .0) (w .3 .taken))
+          (λ w. strides.other-stops _ (text a) _ (λ e. w .0 .left (byte ∙ e)) (sym (w .2 .taken) ∙ w .1 .ensures))
+          (c .if3 .came),
+    )
+
+returns-3 : tie.Need-returns-3 Inv-loop μ-loop
+returns-3 c =
+    let i = c .before .before .before .before .loop .inv in
+    bodies.measures _ 1 (step-in _) (i .1) _ (sym (c .ending-at .ensures)) _ refl (i .2) refl
+
 pub measure-spec : {M : Type 1} → statement M
 measure-spec =
     tie.close
@@ -206,15 +198,13 @@ measure-spec =
     byte-at-requires-2
     returns-2
     stride-at-requires
-    ending-at-requires
-    returns-3
     add-n
     loop-less
     loop-again
     run-end-requires
-    ending-at-requires-2
-    returns-4
     sub-n
     add-n-2
     loop-less-2
-    loop-again-2)
+    loop-again-2
+    ending-at-requires
+    returns-3)
