@@ -25,12 +25,12 @@ use Rattle.single_quote.specs.Content.{special}
 use Rattle.single_quote.specs.declared.Quote.the-variants.{Char}
 use Rattle.character.specs.Single.{charRead}
 use Rattle.character.specs.Parts.{Plain, char, Tiled}
-use Rattle.character.specs.Alone.{bare, enclosed, aloneIn}
+use Rattle.character.specs.Alone.{plainFirst, enclosed, aloneIn}
 use Rattle.character.proofs.Exact.{first-byte, plain-char, char-complete}
 
-bare-plain : (b : ℕ) → bare b ≡ true → Plain b
-unfolding bare
-bare-plain b h =
+first-plain : (b : ℕ) → plainFirst b ≡ true → Plain b
+unfolding plainFirst
+first-plain b h =
     let p = and-eq-true-iff (not (eqb b 39)) (not (eqb b 92) && not (special b)) .0 h in
     let q = and-eq-true-iff (not (eqb b 92)) (not (special b)) .0 (p .1) in
     record {
@@ -40,11 +40,11 @@ bare-plain b h =
     }
 
 module _ (s : List ℕ) (c n : ℕ) (e : aloneIn s ≡ decoded.Char c n) where
-  tests : (enclosed s ≡ true) × (bare (getD s 1 0) ≡ true) × Scalar c × (take (length s - 2) (drop 1 s) ≡ encode c)
+  tests : (enclosed s ≡ true) × (plainFirst (getD s 1 0) ≡ true) × Scalar c × (take (length s - 2) (drop 1 s) ≡ encode c)
   unfolding aloneIn
   tests =
-      let p = char-if (enclosed s && bare (getD s 1 0)) (onlyChar (take (length s - 2) (drop 1 s))) e in
-      let q = and-eq-true-iff (enclosed s) (bare (getD s 1 0)) .0 (p .0) in
+      let p = char-if (enclosed s && plainFirst (getD s 1 0)) (onlyChar (take (length s - 2) (drop 1 s))) e in
+      let q = and-eq-true-iff (enclosed s) (plainFirst (getD s 1 0)) .0 (p .0) in
       let f = only-found (take (length s - 2) (drop 1 s)) c n (p .1) in
       (q .0, q .1, f .0, f .1)
 
@@ -84,7 +84,7 @@ module _ (s : List ℕ) (c n : ℕ) (e : aloneIn s ≡ decoded.Char c n) where
   plain : Plain c
   plain =
       let first : getD s 1 0 ≡ getD (encode c ++ (39 ∷ [])) 0 0 = ap (λ (l : List ℕ). getD l 1 0) alone-text in
-      plain-char c _ (first-byte c (39 ∷ [])) (subst Plain first (bare-plain (getD s 1 0) (tests .1)))
+      plain-char c _ (first-byte c (39 ∷ [])) (subst Plain first (first-plain (getD s 1 0) (tests .1)))
 
   pub alone-read : charRead s ≡ accepted 4 (length s) (value c)
   unfolding suffixFault

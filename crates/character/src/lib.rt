@@ -13,7 +13,7 @@ ghost use Prim.Native.Nat.{_≤_, _<_};
 ghost use lib.ListN.{length};
 ghost use Rattle.err.specs.Reading.{outcomeOf};
 ghost use Rattle.single_quote.specs.Content.{innerOf};
-ghost use Rattle.character.specs.Alone.{bare, aloneIn};
+ghost use Rattle.character.specs.Alone.{plainFirst, aloneIn};
 ghost use Rattle.character.specs.Single.{singleOf, suffixedAt, closedAt, scalarOf, escapedAt, firstAt, singleAt, readBy};
 
 // The value and where the suffix starts, or why a text is no such literal.
@@ -105,9 +105,9 @@ fn first(text: &[u8], at: usize, q: Quote) -> Inner
     single_quote::plain(text, at, q)
 }
 
-// Whether the first byte between the quotes starts a character that stands for itself.
-fn is_bare(b: u8) -> bool
-    ensures { λ r. ⌜ r ≡ bare b ⌝ }
+// Whether the first byte between the quotes is no quote, no backslash, and not LF, tab or CR.
+fn is_plain_first(b: u8) -> bool
+    ensures { λ r. ⌜ r ≡ plainFirst b ⌝ }
 {
     if b == b'\'' {
         return false;
@@ -132,7 +132,7 @@ pub fn alone(text: &[u8]) -> Decoded
     if text[last] != b'\'' {
         return Decoded::Bad;
     }
-    if !is_bare(text[1]) {
+    if !is_plain_first(text[1]) {
         return Decoded::Bad;
     }
     utf8::only_char(&text[1..last])

@@ -1,4 +1,4 @@
--- What is told of a text without reading it: the numbers of a bool, of no bytes, and of a char and nothing else.
+-- What is told of a text without reading it: the numbers of a bool, of no bytes, and of one character between two quotes.
 -- Assumes nothing.
 use mathlib.Core.Path.{_≡_, refl, ap, _∙_}
 use mathlib.Core.Bool.{true, _&&_, and-eq-true-iff}

@@ -81,8 +81,9 @@ fn is_nothing(entry: u64, text: &[u8]) -> bool
     entry == 0
 }
 
-// The reading of a text by entry code, as five numbers: kind, start of suffix and values; or 0, the refusal number and the span. A bool, no
-// bytes, and a char and nothing else are told at once, so that they pay for no call of `read`.
+// The reading of a text by entry code, as five numbers: kind, start of suffix and values; or 0, the refusal number and the span. A bool by entry
+// 0 or 1, no bytes by entry 0, and one character that stands for itself between two quotes by entry 0 or 4 are told at once, so that they pay for
+// no call of `read`.
 #[no_mangle]
 pub extern "C" fn keybasket_read(entry: u64, text: &[u8], answer: &mut [u64; 5])
     ensures { λ r. ⌜ now (answer .exit) ≡ readingNumbers (readAt entry (now (text .entry))) ⌝ }

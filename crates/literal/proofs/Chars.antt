@@ -1,4 +1,4 @@
--- A char and nothing else is read as what it is: nothing is wrong with such a text.
+-- A character that stands for itself between two quotes, and nothing else, is read as that char: nothing is wrong with such a text.
 -- Assumes nothing.
 use mathlib.Core.Path.{_≡_, refl}
 use mathlib.Core.Bool.{Bool, true, false, _||_}

@@ -69,13 +69,14 @@ readAt code s =
     (cond (eqb (textFault s) 0) (entryRead code s) (refused (textFault s) none))
     (refused 42 none)
 
--- ---- for contracts between functions, no sentence of a document; law `chosen-read` joins them and the entry chosen (entries) to the above
+-- ---- for contracts between functions, no sentence of a document; law `chosen-read` joins `quoteIn`, `kindIn` and the entry chosen (entries) to the
+-- above
 
 -- a bool by entry 0 or 1: nothing is wrong with such a text, so that it need not be checked (law `bool-read`)
 unfoldable pub boolAt : ℕ → List ℕ → Bool
 boolAt code s = leb code 1 && isBool s
 
--- a char and nothing else by entry 0 or 4, likewise (law `char-read`)
+-- a character that stands for itself between two quotes, and nothing else, by entry 0 or 4: likewise (law `char-read`)
 unfoldable pub charAt : ℕ → List ℕ → Decoded
 charAt code s = cond (eqb code 0 || eqb code 4) (aloneIn s) Bad
 

@@ -80,7 +80,7 @@ fn entry(code: u64, text: &[u8]) -> Reading
     }
 }
 
-// Whether a text is a bool and read as one. Its few bytes tell, so that it pays for no check.
+// Whether a text is a bool and read as one. Its few bytes tell, so that it pays for no check. For `desk`, no call of a user's.
 pub fn is_bool_at(code: u64, text: &[u8]) -> bool
     ensures { λ r. ⌜ r ≡ boolAt code (now (text .entry)) ⌝ }
 {
@@ -90,7 +90,8 @@ pub fn is_bool_at(code: u64, text: &[u8]) -> bool
     boolean::is_bool(text)
 }
 
-// The character of a text that is a char and nothing else, and read as one. Its few bytes tell, so that it pays for no check.
+// The character of a text that is one character, which stands for itself, between two quotes, and is read as a char. Its few bytes tell, so that
+// it pays for no check. For `desk`, no call of a user's.
 pub fn char_at(code: u64, text: &[u8]) -> utf8::Decoded
     ensures { λ r. ⌜ r ≡ charAt code (now (text .entry)) ⌝ }
 {

@@ -58,7 +58,7 @@ fn has_hashes(s: &[u8], from: usize, h: usize) -> bool
     true
 }
 
-// Why a raw body ends where no piece is: by litrs's step. Its caller has told the quotes apart, so that none stands there.
+// Why a raw body ends where no piece is: by litrs's step.
 fn raw_ending_at(s: &[u8], at: usize, h: usize, k: Allowed) -> Ending
     requires { ⌜ Stopped (rawStepOf k h (drop at (now s))) ⌝ }
     ensures { λ r. ⌜ stop (endOf r) ≡ rawStepOf k h (drop at (now (s .entry))) ⌝ }

@@ -34,18 +34,18 @@ returns-3 c =
     let b = c .before .before in
     rw (le-leb 3 _ (b .before .before .if1 .left), eq-eqb _ 39 (b .if2 .left), ne-eqb _ 39 (c .if3 .taken))
 
-shared-slice-read-is-bare : tie.Need-shared-slice-read-is-bare
-shared-slice-read-is-bare c = search needs
+shared-slice-read-is-plain-first : tie.Need-shared-slice-read-is-plain-first
+shared-slice-read-is-plain-first c = search needs
 
-is-bare-requires : tie.Need-is-bare-requires
-is-bare-requires c κs = search needs
+is-plain-first-requires : tie.Need-is-plain-first-requires
+is-plain-first-requires c κs = search needs
 
 returns-4 : tie.Need-returns-4
 unfolding enclosed aloneIn
 returns-4 c =
     let d = c .before .before .before in
     let b = d .before .before in
-    rw (le-leb 3 _ (b .before .before .if1 .left), eq-eqb _ 39 (b .if2 .left), eq-eqb _ 39 (d .if3 .left), ← c .before .is-bare .ensures, not-true (c .before .is-bare .result) (c .if4 .taken))
+    rw (le-leb 3 _ (b .before .before .if1 .left), eq-eqb _ 39 (b .if2 .left), eq-eqb _ 39 (d .if3 .left), ← c .before .is-plain-first .ensures, not-true (c .before .is-plain-first .result) (c .if4 .taken))
 
 sub-only-char : tie.Need-sub-only-char
 sub-only-char c = search needs
@@ -67,7 +67,7 @@ returns-5 c =
     let b = d .before .before in
     let t = b .before .before .before .before .args .text .now in
     let len : length t - 1 - 1 ≡ length t - 2 = omega arith in
-    rw (le-leb 3 _ (b .before .before .if1 .left), eq-eqb _ 39 (b .if2 .left), eq-eqb _ 39 (d .if3 .left), ← a .before .is-bare .ensures, not-false (a .before .is-bare .result) (a .if4 .left))
+    rw (le-leb 3 _ (b .before .before .if1 .left), eq-eqb _ 39 (b .if2 .left), eq-eqb _ 39 (d .if3 .left), ← a .before .is-plain-first .ensures, not-false (a .before .is-plain-first .result) (a .if4 .left))
     (c .only-char .ensures ∙ ap (λ (k : ℕ). onlyChar (take k (drop 1 t))) len)
 
 pub alone-spec : {M : Type 1} → statement M
@@ -80,8 +80,8 @@ alone-spec =
     sub-last
     shared-slice-read-if3
     returns-3
-    shared-slice-read-is-bare
-    is-bare-requires
+    shared-slice-read-is-plain-first
+    is-plain-first-requires
     returns-4
     sub-only-char
     part-only-char-start
