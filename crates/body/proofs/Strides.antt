@@ -6,18 +6,19 @@ use mathlib.Core.List.{List, [], _∷_, _++_, append-nil}
 use Prim.Native.Nat.{ℕ, _+_, _-_, _≤_, _<_}
 use native.Mathlib.Omega.{arith}
 use borrow.Author.Tests.{eqb-true, eqb-false, ne-eqb}
-use lib.Dec.{eqb}
+use lib.Dec.{eqb, ltb}
 use lib.ListN.{length, getD, take, drop, length-drop}
 use lib.Seq.{drop-drop, getD-drop}
 use Rattle.scan.specs.Run.{run, Stops}
 use Rattle.scan.proofs.Bytes.{byte-inside}
+use Rattle.scan.proofs.Cases.{cond-in}
 use Rattle.buffer.specs.Buffer.{Wrote}
 use Rattle.parse.specs.Sets.{blank}
 use Rattle.utf8.specs.Cut.{lastLen}
 use Rattle.escape.specs.Allows.{allowNul}
 use Rattle.escape.specs.Escape.{value, bytesOf, Valid, letterOf, escapeOf}
 use Rattle.escape_code.specs.Code.{escapeCode, codedLen, codedValue}
-use Rattle.escape_code.specs.At.{letterAt, xAt, uAt}
+use Rattle.escape_code.specs.At.{letterAt, byLetter, xAt, uAt}
 use Rattle.escape.specs.declared.Allowed.{Allowed}
 use Rattle.escape.specs.declared.Unescaped.{Unescaped}
 use Rattle.escape.specs.declared.Unescaped.the-variants.{Nothing, Byte}
@@ -34,6 +35,11 @@ use Rattle.body.proofs.Runs.{plain-stops, behind-run}
 use Rattle.body.proofs.Codes as codes
 
 -- ---- one law for each way
+
+-- no escape by `u` without the letter
+pub no-u : (k : Allowed) (s : List ℕ) (i end : ℕ) → (getD s (i + 1) 0 ≡ 117 → ⊥) → uAt k s i end ≡ 0
+unfolding byLetter
+no-u k s i end h = rw (ne-eqb (getD s (i + 1) 0) 117 h) (cond-in (λ (n : ℕ). n ≡ 0) (ltb (i + 1) end) (λ e. refl) (λ e. refl))
 
 -- the piece that the backslash at i starts ends at t and stands for v
 pub record Arm (k : Allowed) (s : List ℕ) (i t : ℕ) (v : List ℕ) : Type 0 where

@@ -197,32 +197,36 @@ fn stride_at(s: &[u8], at: usize, end: usize, k: Allowed) -> Stride
             value: 1,
         };
     }
-    let u = escape_code::u_at(s, at, end, k);
-    if u != 0 {
-        let n = escape::value_len(escape_code::code_value(u));
-        let len = escape_code::code_len(u);
-        if len == 6 {
+    let b = s[second];
+    if b != b'u' {
+        // what is left is `\0`, or refused
+        if b != b'0' {
+            return Stride { next: 0, value: 0 };
+        }
+        if k.allow_nul() {
             return Stride {
-                next: at + 6,
-                value: n,
+                next: at + 2,
+                value: 1,
             };
         }
+        return Stride { next: 0, value: 0 };
+    }
+    let u = escape_code::u_at(s, at, end, k);
+    if u == 0 {
+        return Stride { next: 0, value: 0 };
+    }
+    let n = escape::value_len(escape_code::code_value(u));
+    let len = escape_code::code_len(u);
+    if len == 6 {
         return Stride {
-            next: at + len,
+            next: at + 6,
             value: n,
         };
     }
-    // what is left is `\0`, or refused
-    if s[second] != b'0' {
-        return Stride { next: 0, value: 0 };
+    Stride {
+        next: at + len,
+        value: n,
     }
-    if k.allow_nul() {
-        return Stride {
-            next: at + 2,
-            value: 1,
-        };
-    }
-    Stride { next: 0, value: 0 }
 }
 
 // Why a quoted body ends where neither a piece nor a byte that stands for itself is: by litrs's steps, of which only those that end it are
