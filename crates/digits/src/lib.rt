@@ -82,17 +82,18 @@ pub fn end_digits(s: &[u8], base: u8) -> usize
     requires { ⌜ base ≤ 16 ⌝ }
     ensures { λ r. ⌜ r ≡ run (digit base) (now (s .entry)) ⌝ }
 {
+    let near = scan::nearer(0, 32, s.len());
     let mut i = 0;
-    while i < s.len() {
-        if i == 32 {
-            return i + digits_len(&s[i..], base);
-        }
+    while i < near {
         if !is_digit_or_underscore(s[i], base) {
             return i;
         }
         i += 1;
     }
-    i
+    if i == s.len() {
+        return i;
+    }
+    i + digits_len(&s[i..], base)
 }
 
 // A decimal digit or `_`, by comparisons: a block with these has no branch and no table.

@@ -1,18 +1,21 @@
 -- The number that digits write: byte by byte, of two parts, of plain decimal digits, and as it grows.
 -- Assumes nothing.
-use mathlib.Core.Path.{_≡_, refl}
+use mathlib.Core.Path.{_≡_, refl, sym, _∙_}
 use mathlib.Core.Bool.{Bool, true, false, cond}
 use mathlib.Core.List.{List, [], _∷_, _++_, foldl}
-use Prim.Native.Nat.{ℕ, _+_, _*_, _-_, _≤_, _<_}
-use native.Mathlib.Nat.{le-mul-of-pos-right}
+use Prim.Native.Nat.{ℕ, _+_, _*_, _-_, _/_, _≤_, _<_}
+use native.Mathlib.Nat.{add-mul, div-lt-iff-lt-mul, le-div-iff-mul-le, le-mul-of-pos-right}
 use native.Mathlib.Numerals.{add-one}
 use native.Mathlib.Omega.{arith}
 use borrow.Author.Tests.{ltb-true, le-leb, lt-leb, eq-eqb, ne-eqb}
-use lib.Dec.{eqb}
+use lib.Dec.{eqb, leb}
 use lib.ListN.{length, getD, drop, drop-of-length-le}
 use lib.Seq.{drop-cons}
+use Rattle.err.specs.Reading.{baseOf}
+use Rattle.err.specs.declared.IntegerBase.{IntegerBase}
+use Rattle.err.specs.declared.IntegerBase.the-variants.{Binary, Octal, Decimal, Hexadecimal}
 use Rattle.scan.specs.Run.{All}
-use Rattle.scan.proofs.Cases.{cond-in}
+use Rattle.scan.proofs.Cases.{cond-in, by-lt}
 use Rattle.parse.specs.Class.{classOf}
 use Rattle.parse.specs.Sets.{decDigit}
 use Rattle.parse.proofs.Classes.{class-decimal, dec-digit-ends}
@@ -49,6 +52,33 @@ within-given largest n m e h = rw (← e, le-leb n largest h)
 
 pub within-over : (largest m : ℕ) → largest < m → Over ≡ within largest m
 within-over largest m h = rw (lt-leb m largest h)
+
+pub base-two : (b : IntegerBase) → 2 ≤ baseOf b
+base-two Binary = omega arith
+base-two Octal = omega arith
+base-two Decimal = omega arith
+base-two Hexadecimal = omega arith
+
+-- ---- with one digit more: far below the largest, above it, and near
+
+module _ (n d by largest : ℕ) (p : 2 ≤ by) where
+  some : 0 < by
+  some = omega arith
+
+  pub far-within : n + 11 ≤ largest / by → d ≤ 20 → true ≡ leb (n * by + d) largest
+  far-within h l = sym (le-leb (n * by + d) largest (omega (arith, le-div-iff-mul-le some .0 h, add-mul n 11 by)))
+
+  pub past-within : largest / by < n → false ≡ leb (n * by + d) largest
+  past-within h = sym (lt-leb (n * by + d) largest (omega (arith, div-lt-iff-lt-mul some .0 h)))
+
+  pub near-product : n ≤ largest / by → n * by ≤ largest
+  near-product h = le-div-iff-mul-le some .0 h
+
+  pub near-within : n * by ≤ largest → leb d (largest - n * by) ≡ leb (n * by + d) largest
+  near-within h =
+      by-lt largest (n * by + d)
+      (λ g. lt-leb d (largest - n * by) (omega arith) ∙ sym (lt-leb (n * by + d) largest g))
+      (λ g. le-leb d (largest - n * by) (omega arith) ∙ sym (le-leb (n * by + d) largest g))
 
 -- ---- of two parts
 

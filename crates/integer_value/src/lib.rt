@@ -4,7 +4,8 @@ use err::IntegerLit;
 use err::ParseErrorKind;
 use err::Span;
 ghost use mathlib.Core.Path.{_≡_};
-ghost use Prim.Native.Nat.{_≤_};
+ghost use Prim.Native.Nat.{_+_, _-_, _*_, _/_, _≤_};
+ghost use lib.Dec.{leb};
 ghost use lib.ListN.{length};
 ghost use lib.Seq.{slice};
 ghost use Rattle.err.specs.Reading.{baseOf};
@@ -16,12 +17,34 @@ pub enum Within {
     Over,
 }
 
+// Ten less, 0 at the least.
+fn ten_less(n: u64) -> u64
+    ensures { λ r. ⌜ r ≡ n - 10 ⌝ }
+{
+    if 10 < n { n - 10 } else { 0 }
+}
+
+// Whether a number with one digit more is at most the largest. Ten below the quotient and less, it is, whatever the digit.
+fn is_within(n: u64, d: u64, by: u64, largest: u64, most: u64, near: u64) -> bool
+    requires { ⌜ ((most ≡ largest / by) × (near ≡ most - 10)) × ((2 ≤ by) × (d ≤ 20)) ⌝ }
+    ensures { λ r. ⌜ r ≡ leb (n * by + d) largest ⌝ }
+{
+    if n < near {
+        return true;
+    }
+    if most < n {
+        return false;
+    }
+    d <= largest - n * by
+}
+
 // The digits' number, in one pass: it is left at the digit that passes the largest.
 pub fn number_within(digits: &[u8], base: IntegerBase, largest: u64) -> Within
     ensures { λ r. ⌜ r ≡ within largest (number (baseOf base) (now (digits .entry))) ⌝ }
 {
     let by = wide(base.value());
     let most = largest / by;
+    let near = ten_less(most);
     let mut n: u64 = 0;
     let mut i = 0;
     while i < digits.len() {
@@ -30,11 +53,8 @@ pub fn number_within(digits: &[u8], base: IntegerBase, largest: u64) -> Within
         if b == b'_' {
             continue;
         }
-        if most < n {
-            return Within::Over;
-        }
         let d = wide(parse::class_of(b));
-        if largest - n * by < d {
+        if !is_within(n, d, by, largest, most, near) {
             return Within::Over;
         }
         n = n * by + d;

@@ -15,13 +15,47 @@ use Rattle.digits.proofs.end_digits.Tie as tie
 
 -- the run of the whole is what is passed and the run of the rest
 abbrev Inv-loop : tie.InvT-loop
-Inv-loop s base i₀ i = (i ≤ length s) × (i + run (digit base) (drop i s) ≡ run (digit base) s)
+Inv-loop s base near i₀ i = (i ≤ near) × (i + run (digit base) (drop i s) ≡ run (digit base) s)
 
 abbrev μ-loop : tie.MeasureT-loop
-μ-loop s base i₀ i = length s - i
+μ-loop s base near i₀ i = near - i
+
+nearer-requires : tie.Need-nearer-requires Inv-loop μ-loop
+nearer-requires c κs = search needs
 
 loop-holds : tie.Need-loop-holds Inv-loop μ-loop
 loop-holds c = search needs
+
+shared-slice-read-is-digit-or-underscore : tie.Need-shared-slice-read-is-digit-or-underscore Inv-loop μ-loop
+shared-slice-read-is-digit-or-underscore c = omega (arith, c .before .before .before .nearer .ensures)
+
+is-digit-or-underscore-requires : tie.Need-is-digit-or-underscore-requires Inv-loop μ-loop
+is-digit-or-underscore-requires c κs = search needs
+
+returns : tie.Need-returns Inv-loop μ-loop
+returns c =
+    let b = c .before .before .before in
+    let a = b .before in
+    sym (run-stop _ _ _ (omega (arith, b .loop-test .taken, a .before .nearer .ensures)) (sym (c .before .is-digit-or-underscore .ensures) ∙ not-true _ (c .if1 .taken)))
+    ∙ a .loop .inv .1
+
+add-i : tie.Need-add-i Inv-loop μ-loop
+add-i c = search needs
+
+loop-less : tie.Need-loop-less Inv-loop μ-loop
+loop-less c = search needs
+
+loop-again : tie.Need-loop-again Inv-loop μ-loop
+loop-again c =
+    let b = c .before .before .before in
+    let a = b .before in (
+      search needs,
+      sym (run-more _ _ _ (omega (arith, b .loop-test .taken, a .before .nearer .ensures)) (sym (c .before .is-digit-or-underscore .ensures) ∙ not-false _ (c .if1 .left)))
+          ∙ a .loop .inv .1,
+    )
+
+returns-2 : tie.Need-returns-2 Inv-loop μ-loop
+returns-2 c = let a = c .before .before in sym (run-end _ _ _ (omega (arith, c .if2 .taken))) ∙ a .loop .inv .1
 
 sub-digits-len : tie.Need-sub-digits-len Inv-loop μ-loop
 sub-digits-len c = search needs
@@ -35,36 +69,11 @@ part-digits-len-end c = search needs
 digits-len-requires : tie.Need-digits-len-requires Inv-loop μ-loop
 digits-len-requires c κs = search needs
 
-returns : tie.Need-returns Inv-loop μ-loop
-returns c = rw (c .digits-len .ensures, part-to-end) (c .before .before .before .before .loop .inv .1)
+returns-3 : tie.Need-returns-3 Inv-loop μ-loop
+returns-3 c = rw (c .digits-len .ensures, part-to-end) (c .before .before .before .before .loop .inv .1)
 
 add-result : tie.Need-add-result Inv-loop μ-loop
-add-result c = let a = c .before .before .before .before .before .before .args in omega (arith, returns c, run-le (digit (a .base)) (a .s .now))
-
-shared-slice-read-is-digit-or-underscore : tie.Need-shared-slice-read-is-digit-or-underscore Inv-loop μ-loop
-shared-slice-read-is-digit-or-underscore c = search needs
-
-is-digit-or-underscore-requires : tie.Need-is-digit-or-underscore-requires Inv-loop μ-loop
-is-digit-or-underscore-requires c κs = search needs
-
-returns-2 : tie.Need-returns-2 Inv-loop μ-loop
-returns-2 c =
-    let b = c .before .before .before .before in
-    sym (run-stop _ _ _ (b .loop-test .taken) (sym (c .before .is-digit-or-underscore .ensures) ∙ not-true _ (c .if2 .taken))) ∙ b .before .loop .inv .1
-
-add-i : tie.Need-add-i Inv-loop μ-loop
-add-i c = search needs
-
-loop-less : tie.Need-loop-less Inv-loop μ-loop
-loop-less c = search needs
-
-loop-again : tie.Need-loop-again Inv-loop μ-loop
-loop-again c =
-    let b = c .before .before .before .before in
-    (search needs, sym (run-more _ _ _ (b .loop-test .taken) (sym (c .before .is-digit-or-underscore .ensures) ∙ not-false _ (c .if2 .left))) ∙ b .before .loop .inv .1)
-
-returns-3 : tie.Need-returns-3 Inv-loop μ-loop
-returns-3 c = sym (run-end _ _ _ (c .loop-test .left)) ∙ c .before .loop .inv .1
+add-result c = let a = c .before .before .before .before .before .before .before .args in omega (arith, returns-3 c, run-le (digit (a .base)) (a .s .now))
 
 pub end-digits-spec : {M : Type 1} → statement M
 end-digits-spec =
@@ -72,17 +81,18 @@ end-digits-spec =
     (tie.spec
     Inv-loop
     μ-loop
+    nearer-requires
     loop-holds
+    shared-slice-read-is-digit-or-underscore
+    is-digit-or-underscore-requires
+    returns
+    add-i
+    loop-less
+    loop-again
+    returns-2
     sub-digits-len
     part-digits-len-start
     part-digits-len-end
     digits-len-requires
     add-result
-    returns
-    shared-slice-read-is-digit-or-underscore
-    is-digit-or-underscore-requires
-    returns-2
-    add-i
-    loop-less
-    loop-again
     returns-3)

@@ -1,25 +1,27 @@
 -- `integer_value::number_within` meets its contract.
 -- Assumes nothing.
 use Prim.Native.Nat.{_+_, _*_, _-_, _≤_, _<_}
-use mathlib.Core.Path.{_≡_, sym, _∙_}
-use native.Mathlib.Nat.{le-div-iff-mul-le, div-lt-iff-lt-mul}
+use mathlib.Core.Path.{_≡_, refl, sym, _∙_}
 use native.Mathlib.Omega.{arith}
+use borrow.Author.Tests.{leb-true, leb-false, not-true, not-false}
+use lib.Dec.{leb}
 use lib.ListN.{length, getD, drop}
 use Rattle.err.specs.Reading.{baseOf}
 use Rattle.parse.specs.Class.{classOf}
+use Rattle.parse.proofs.Classes.{class-most}
 use Rattle.integer.proofs.Bases.{base-ends}
 use Rattle.integer_value.specs.Value.{numberFrom, number}
-use Rattle.integer_value.proofs.Numbers.{number-passed, number-more, number-end, number-above, within-given, within-over}
+use Rattle.integer_value.proofs.Numbers.{base-two, number-passed, number-more, number-end, number-above, within-given, within-over}
 use borrow.Author.Needs.{needs}
 use Rattle.integer_value.proofs.number_within.Statement.{statement}
 use Rattle.integer_value.proofs.number_within.Tie as tie
 
 -- what is read so far is at most the largest, and the whole is what the rest makes of it
 abbrev Inv-loop : tie.InvT-loop
-Inv-loop digits largest by most n₀ i₀ n i = (i ≤ length digits) × ((n ≤ largest) × (numberFrom by n (drop i digits) ≡ numberFrom by 0 digits))
+Inv-loop digits largest by most near n₀ i₀ n i = (i ≤ length digits) × ((n ≤ largest) × (numberFrom by n (drop i digits) ≡ numberFrom by 0 digits))
 
 abbrev μ-loop : tie.MeasureT-loop
-μ-loop digits largest by most n₀ i₀ n i = length digits - i
+μ-loop digits largest by most near n₀ i₀ n i = length digits - i
 
 value-requires : tie.Need-value-requires Inv-loop μ-loop
 value-requires c κs = search needs
@@ -35,6 +37,9 @@ positive c = rw (base c) (base-ends (c .before .before .before .args .base) .0)
 
 div-most : tie.Need-div-most Inv-loop μ-loop
 div-most c = positive c
+
+ten-less-requires : tie.Need-ten-less-requires Inv-loop μ-loop
+ten-less-requires c κs = search needs
 
 loop-holds : tie.Need-loop-holds Inv-loop μ-loop
 loop-holds c = search needs
@@ -55,24 +60,19 @@ loop-again c =
 
 -- the whole number, as it is at the loop's test
 whole : (c : tie.At-loop Inv-loop μ-loop) →
-    let a = c .before .before .before .before .args in
-    numberFrom (c .before .wide .result) (c .loop .n) (drop (c .loop .i) (a .digits .now)) ≡ number (baseOf (a .base)) (a .digits .now)
+    let a = c .before .before .before .before .before .args in
+    numberFrom (c .before .before .wide .result) (c .loop .n) (drop (c .loop .i) (a .digits .now)) ≡ number (baseOf (a .base)) (a .digits .now)
 unfolding number
-whole c = c .loop .inv .1 .1 ∙ rw (base (c .before))
+whole c = c .loop .inv .1 .1 ∙ rw (base (c .before .before))
 
 -- a digit that takes the number above the largest takes the whole above
 over : (c : tie.Else1 Inv-loop μ-loop) →
     let l = c .before .before .before in
-    let a = l .before .before .before .before .args in
-    a .largest < l .loop .n * l .before .wide .result + classOf (getD (a .digits .now) (l .loop .i) 0) → a .largest < number (baseOf (a .base)) (a .digits .now)
+    let a = l .before .before .before .before .before .args in
+    a .largest < l .loop .n * l .before .before .wide .result + classOf (getD (a .digits .now) (l .loop .i) 0) → a .largest < number (baseOf (a .base)) (a .digits .now)
 over c h =
     let l = c .before .before .before in
-    rw (← whole l) (number-above _ _ _ _ _ (positive (l .before)) (c .before .before .loop-test .taken) (c .if1 .left) h)
-
-returns : tie.Need-returns Inv-loop μ-loop
-returns c =
-    let l = c .before .before .before .before in
-    within-over _ _ (over (c .before) (omega (arith, div-lt-iff-lt-mul (positive (l .before)) .0 (c .if2 .taken))))
+    rw (← whole l) (number-above _ _ _ _ _ (positive (l .before .before)) (c .before .before .loop-test .taken) (c .if1 .left) h)
 
 class-of-requires : tie.Need-class-of-requires Inv-loop μ-loop
 class-of-requires c κs = search needs
@@ -80,43 +80,53 @@ class-of-requires c κs = search needs
 wide-requires-2 : tie.Need-wide-requires-2 Inv-loop μ-loop
 wide-requires-2 c κs = search needs
 
--- a number at most the quotient may be multiplied
-product : (c : tie.Else2 Inv-loop μ-loop) →
-    let l = c .before .before .before .before in
-    l .loop .n * l .before .wide .result ≤ l .before .before .before .before .args .largest
-product c = le-div-iff-mul-le (positive (c .before .before .before .before .before)) .0 (c .if2 .left)
-
 digit : (c : tie.After-wide2 Inv-loop μ-loop) →
-    let l = c .before .before .before .before .before .before in
-    c .wide2 .result ≡ classOf (getD (l .before .before .before .before .args .digits .now) (l .loop .i) 0)
+    let l = c .before .before .before .before .before in
+    c .wide2 .result ≡ classOf (getD (l .before .before .before .before .before .args .digits .now) (l .loop .i) 0)
 digit c = c .wide2 .ensures ∙ c .before .class-of .ensures
 
-mul-if3 : tie.Need-mul-if3 Inv-loop μ-loop
-mul-if3 c = omega (arith, product (c .before .before))
+is-within-requires : tie.Need-is-within-requires Inv-loop μ-loop
+is-within-requires c κs =
+    let l = c .before .before .before .before .before in
+    ((refl, l .before .ten-less .ensures), (rw (base (l .before .before)) (base-two (l .before .before .before .before .before .args .base)), rw (digit c) (class-most _)))
 
-sub-if3 : tie.Need-sub-if3 Inv-loop μ-loop
-sub-if3 c = product (c .before .before)
+-- what the test said of a number with the digit more
+test : (c : tie.After-is-within Inv-loop μ-loop) →
+    let l = c .before .before .before .before .before .before in
+    c .is-within .result ≡ leb (l .loop .n * l .before .before .wide .result + c .before .wide2 .result) (l .before .before .before .before .before .args .largest)
+test c = c .is-within .ensures
 
-returns-2 : tie.Need-returns-2 Inv-loop μ-loop
-returns-2 c = within-over _ _ (over (c .before .before .before .before) (omega (arith, product (c .before .before .before), digit (c .before), c .if3 .taken)))
+fits : (c : tie.Else2 Inv-loop μ-loop) →
+    let l = c .before .before .before .before .before .before .before in
+    l .loop .n * l .before .before .wide .result + c .before .before .wide2 .result ≤ l .before .before .before .before .before .args .largest
+fits c = leb-true _ _ (sym (test (c .before)) ∙ not-false _ (c .if2 .left))
+
+exceeds : (c : tie.Then2 Inv-loop μ-loop) →
+    let l = c .before .before .before .before .before .before .before in
+    l .before .before .before .before .before .args .largest < l .loop .n * l .before .before .wide .result + c .before .before .wide2 .result
+exceeds c = leb-false _ _ (sym (test (c .before)) ∙ not-true _ (c .if2 .taken))
+
+returns : tie.Need-returns Inv-loop μ-loop
+returns c = let w = c .before .before in within-over _ _ (over (w .before .before) (omega (arith, exceeds c, digit w)))
 
 mul-n : tie.Need-mul-n Inv-loop μ-loop
-mul-n c = omega (arith, product (c .before .before .before))
+mul-n c = omega (arith, fits c)
 
 add-n : tie.Need-add-n Inv-loop μ-loop
-add-n c = omega (arith, product (c .before .before .before))
+add-n c = omega (arith, fits c)
 
 loop-less-2 : tie.Need-loop-less-2 Inv-loop μ-loop
 loop-less-2 c = search needs
 
 loop-again-2 : tie.Need-loop-again-2 Inv-loop μ-loop
 loop-again-2 c =
-    let b = c .before .before .before .before in
+    let w = c .before .before in
+    let b = w .before .before in
     let l = b .before .before in
-    (omega arith, (omega (arith, product (c .before .before .before)), rw (digit (c .before)) (sym (number-more _ _ _ _ (l .loop-test .taken) (b .if1 .left)) ∙ l .before .loop .inv .1 .1)))
+    (omega arith, (fits c, rw (digit w) (sym (number-more _ _ _ _ (l .loop-test .taken) (b .if1 .left)) ∙ l .before .loop .inv .1 .1)))
 
-returns-3 : tie.Need-returns-3 Inv-loop μ-loop
-returns-3 c = within-given _ _ _ (sym (number-end _ _ _ _ (c .loop-test .left)) ∙ whole (c .before)) (c .before .loop .inv .1 .0)
+returns-2 : tie.Need-returns-2 Inv-loop μ-loop
+returns-2 c = within-given _ _ _ (sym (number-end _ _ _ _ (c .loop-test .left)) ∙ whole (c .before)) (c .before .loop .inv .1 .0)
 
 pub number-within-spec : {M : Type 1} → statement M
 number-within-spec =
@@ -127,19 +137,18 @@ number-within-spec =
     value-requires
     wide-requires
     div-most
+    ten-less-requires
     loop-holds
     shared-slice-read-b
     add-i
     loop-less
     loop-again
-    returns
     class-of-requires
     wide-requires-2
-    mul-if3
-    sub-if3
-    returns-2
+    is-within-requires
+    returns
     mul-n
     add-n
     loop-less-2
     loop-again-2
-    returns-3)
+    returns-2)
