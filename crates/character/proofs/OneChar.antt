@@ -2,7 +2,7 @@
 -- Assumes nothing.
 use mathlib.Core.Path.{_≡_, refl, sym, ap, _∙_, subst}
 use mathlib.Core.Logic.{inl}
-use mathlib.Core.Bool.{Bool, true, false, not, _&&_, and-eq-true-iff}
+use mathlib.Core.Bool.{true, not, _&&_, and-eq-true-iff}
 use mathlib.Core.List.{List, [], _∷_, _++_}
 use Prim.Native.Nat.{ℕ, suc, _+_, _-_, _≤_, _<_}
 use native.Mathlib.Omega.{arith}
@@ -22,9 +22,8 @@ use Rattle.utf8.proofs.Only.{char-if, only-found}
 use Rattle.utf8.proofs.Text.{utf8-char, utf8-one}
 use Rattle.utf8.proofs.Valid.{isUtf8-right}
 use Rattle.single_quote.specs.Content.{special}
-use Rattle.single_quote.specs.declared.Quote.the-variants.{Char}
 use Rattle.character.specs.Single.{charRead}
-use Rattle.character.specs.Parts.{Plain, char, Tiled}
+use Rattle.character.specs.Parts.{Plain, char}
 use Rattle.character.specs.Alone.{plainFirst, enclosed, aloneIn}
 use Rattle.character.proofs.Exact.{first-byte, plain-char, char-complete}
 

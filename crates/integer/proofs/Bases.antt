@@ -94,7 +94,7 @@ module _ (s : List ℕ) where
       go true false false false g f h = refl
       go false b o x g f h = refl
 
-pub base-ends : (b : IntegerBase) → (0 < baseOf b) × (baseOf b ≤ 16)
+pub base-ends : (b : IntegerBase) → (2 ≤ baseOf b) × (baseOf b ≤ 16)
 base-ends Binary = (omega arith, omega arith)
 base-ends Octal = (omega arith, omega arith)
 base-ends Decimal = (omega arith, omega arith)

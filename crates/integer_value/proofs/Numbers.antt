@@ -11,9 +11,6 @@ use borrow.Author.Tests.{ltb-true, le-leb, lt-leb, eq-eqb, ne-eqb}
 use lib.Dec.{eqb, leb}
 use lib.ListN.{length, getD, drop, drop-of-length-le}
 use lib.Seq.{drop-cons}
-use Rattle.err.specs.Reading.{baseOf}
-use Rattle.err.specs.declared.IntegerBase.{IntegerBase}
-use Rattle.err.specs.declared.IntegerBase.the-variants.{Binary, Octal, Decimal, Hexadecimal}
 use Rattle.scan.specs.Run.{All}
 use Rattle.scan.proofs.Cases.{cond-in, by-lt}
 use Rattle.parse.specs.Class.{classOf}
@@ -52,12 +49,6 @@ within-given largest n m e h = rw (← e, le-leb n largest h)
 
 pub within-over : (largest m : ℕ) → largest < m → Over ≡ within largest m
 within-over largest m h = rw (lt-leb m largest h)
-
-pub base-two : (b : IntegerBase) → 2 ≤ baseOf b
-base-two Binary = omega arith
-base-two Octal = omega arith
-base-two Decimal = omega arith
-base-two Hexadecimal = omega arith
 
 -- ---- with one digit more: far below the largest, above it, and near
 

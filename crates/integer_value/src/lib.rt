@@ -24,7 +24,7 @@ fn ten_less(n: u64) -> u64
     if 10 < n { n - 10 } else { 0 }
 }
 
-// Whether a number with one digit more is at most the largest. Ten below the quotient and less, it is, whatever the digit.
+// Whether a number with one digit more is at most the largest. Where it is more than ten below the quotient, it is, whatever the digit.
 fn is_within(n: u64, d: u64, by: u64, largest: u64, most: u64, near: u64) -> bool
     requires { ⌜ ((most ≡ largest / by) × (near ≡ most - 10)) × ((2 ≤ by) × (d ≤ 20)) ⌝ }
     ensures { λ r. ⌜ r ≡ leb (n * by + d) largest ⌝ }

@@ -2,7 +2,6 @@
 -- Assumes nothing.
 use Prim.Native.Nat.{_+_, _*_, _/_, _≤_, _<_}
 use native.Mathlib.Omega.{arith}
-use borrow.Author.Needs.{needs}
 use Rattle.integer_value.proofs.Numbers.{far-within, past-within, near-product, near-within}
 use Rattle.integer_value.proofs.is_within.Statement.{statement}
 use Rattle.integer_value.proofs.is_within.Tie as tie

@@ -11,7 +11,7 @@ use Rattle.parse.specs.Class.{classOf}
 use Rattle.parse.proofs.Classes.{class-most}
 use Rattle.integer.proofs.Bases.{base-ends}
 use Rattle.integer_value.specs.Value.{numberFrom, number}
-use Rattle.integer_value.proofs.Numbers.{base-two, number-passed, number-more, number-end, number-above, within-given, within-over}
+use Rattle.integer_value.proofs.Numbers.{number-passed, number-more, number-end, number-above, within-given, within-over}
 use borrow.Author.Needs.{needs}
 use Rattle.integer_value.proofs.number_within.Statement.{statement}
 use Rattle.integer_value.proofs.number_within.Tie as tie
@@ -32,8 +32,11 @@ wide-requires c κs = search needs
 base : (c : tie.After-wide Inv-loop μ-loop) → c .wide .result ≡ baseOf (c .before .before .before .args .base)
 base c = c .wide .ensures ∙ c .before .value .ensures
 
+two : (c : tie.After-wide Inv-loop μ-loop) → 2 ≤ c .wide .result
+two c = rw (base c) (base-ends (c .before .before .before .args .base) .0)
+
 positive : (c : tie.After-wide Inv-loop μ-loop) → 0 < c .wide .result
-positive c = rw (base c) (base-ends (c .before .before .before .args .base) .0)
+positive c = omega (arith, two c)
 
 div-most : tie.Need-div-most Inv-loop μ-loop
 div-most c = positive c
@@ -88,7 +91,7 @@ digit c = c .wide2 .ensures ∙ c .before .class-of .ensures
 is-within-requires : tie.Need-is-within-requires Inv-loop μ-loop
 is-within-requires c κs =
     let l = c .before .before .before .before .before in
-    ((refl, l .before .ten-less .ensures), (rw (base (l .before .before)) (base-two (l .before .before .before .before .before .args .base)), rw (digit c) (class-most _)))
+    ((refl, l .before .ten-less .ensures), (two (l .before .before), rw (digit c) (class-most _)))
 
 -- what the test said of a number with the digit more
 test : (c : tie.After-is-within Inv-loop μ-loop) →
