@@ -13,7 +13,7 @@ use lib.Seq.{drop-drop}
 use Rattle.err.specs.Outcome.{between}
 use Rattle.scan.specs.Run.{run, Stops}
 use Rattle.scan.proofs.Cases.{clash}
-use Rattle.scan.proofs.Runs.{run-le, run-stops}
+use Rattle.scan.proofs.Runs.{run-le, run-stops, run-past}
 use Rattle.escape.specs.Allows.{unicode, allowNul}
 use Rattle.escape.specs.declared.Allowed.{Allowed}
 use Rattle.escape.specs.declared.Unescaped.the-variants.{Byte}
@@ -145,3 +145,14 @@ counts p s i v e l h =
     let bound = run-le p (drop i s) in
     let size = length-drop i s in
     (omega arith, omega arith, simp (length-append, length-take) (omega arith))
+
+-- the run at the front of a quoted body
+module _ (k : Allowed) (s : List ℕ) (e : ℕ) (is : e ≡ run (plainByte k) s) where
+  pub front-passed : bodies.Passed (stepOf k) s e (take e s)
+  front-passed = rw zero-add at (passed-run (stepOf k) (plainByte k) (plain-step k) e (bodies.start (stepOf k) s) is)
+
+  pub front-length : e ≡ length (take e s)
+  front-length = omega (arith, length-take e s, run-le (plainByte k) s)
+
+  pub front-stops : e ≡ e + run (plainByte k) (drop e s)
+  front-stops = omega (arith, run-past (plainByte k) e s (omega arith))

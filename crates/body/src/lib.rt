@@ -13,6 +13,8 @@ ghost use Prim.Native.Nat.{_+_, _-_, _≤_, _<_};
 ghost use lib.ListN.{length, getD, drop};
 ghost use Rattle.err.specs.Reading.{hashesOf};
 ghost use Rattle.utf8.specs.Cut.{lastLen};
+ghost use Rattle.scan.specs.Run.{run};
+ghost use Rattle.plain_run.specs.Plain.{plainByte};
 ghost use Rattle.body.specs.Code.{codeOf, Stopped};
 ghost use Rattle.body.specs.Step.{stop, endOf, nextOf, lineBreakOf, backslashOf, plainOf, stepOf};
 ghost use Rattle.body.specs.Stride.{breakEnd, nextAt, valueIn};
@@ -104,21 +106,6 @@ fn backslash(s: &[u8], last: usize, k: Allowed) -> Step
         // the span is made anew: a copy of it would wait for its bytes to be stored
         Escape::Bad(kind, span) => Step::Stop(Ending::Bad(kind, err::offset_span(span, 0))),
     }
-}
-
-// What stands at i of a quoted body.
-fn step_at(s: &[u8], i: usize, last: usize, k: Allowed) -> Step
-    requires { ⌜ last ≡ lastLen (now s) ⌝ }
-    ensures { λ r. ⌜ nextOf r ≡ stepOf k (drop i (now (s .entry))) ⌝ }
-{
-    if s.len() <= i {
-        return Step::Stop(Ending::Bad(ParseErrorKind::UnterminatedString, Span::Nowhere));
-    }
-    let b = s[i];
-    if b == b'\\' {
-        return backslash(&s[i..], last, k);
-    }
-    plain(b, k)
 }
 
 // A backslash and what follows at an offset, as one number; 0 where it ends the body, or where there is none. An escape sees what stands
@@ -229,13 +216,16 @@ fn stride_at(s: &[u8], at: usize, end: usize, k: Allowed) -> Stride
     }
 }
 
-// Why a quoted body ends where neither a piece nor a byte that stands for itself is: by litrs's steps, of which only those that end it are
-// reached from here.
-fn ending_at(s: &[u8], at: usize, last: usize, k: Allowed) -> Ending
-    requires { ⌜ (last ≡ lastLen (now s)) × Stopped (stepOf k (drop at (now s))) ⌝ }
+// Why a quoted body ends where neither a piece nor a byte that stands for itself is, and no backslash: at the end of the text, or by litrs's
+// step of one byte.
+fn plain_ending(s: &[u8], at: usize, k: Allowed) -> Ending
+    requires { ⌜ (getD (now s) at 0 ≡ 92 → ⊥) × Stopped (stepOf k (drop at (now s))) ⌝ }
     ensures { λ r. ⌜ stop (endOf r) ≡ stepOf k (drop at (now (s .entry))) ⌝ }
 {
-    let next = step_at(s, at, last, k);
+    if s.len() <= at {
+        return Ending::Bad(ParseErrorKind::UnterminatedString, Span::Nowhere);
+    }
+    let next = plain(s[at], k);
     // cannot arise: the step is none that goes on
     let Step::Stop(why) = next else {
         return Ending::Close;
@@ -243,23 +233,31 @@ fn ending_at(s: &[u8], at: usize, last: usize, k: Allowed) -> Ending
     why
 }
 
-// The body of a quoted string: s is what stands behind the opening quote, to the end of the text.
-fn measure(s: &[u8], k: Allowed) -> Measured
-    requires { ⌜ length (now s) < 4294967296 ⌝ }
+// The same, where a backslash may stand.
+fn ending_at(s: &[u8], at: usize, last: usize, k: Allowed) -> Ending
+    requires { ⌜ (last ≡ lastLen (now s)) × Stopped (stepOf k (drop at (now s))) ⌝ }
+    ensures { λ r. ⌜ stop (endOf r) ≡ stepOf k (drop at (now (s .entry))) ⌝ }
+{
+    if scan::byte_at(s, at) != b'\\' {
+        return plain_ending(s, at, k);
+    }
+    let next = backslash(&s[at..], last, k);
+    // cannot arise: the step is none that goes on
+    let Step::Stop(why) = next else {
+        return Ending::Close;
+    };
+    why
+}
+
+// A quoted body behind its first bytes, which stand for themselves, up to an offset.
+fn measure_on(s: &[u8], from: usize, k: Allowed) -> Measured
+    requires { ⌜ (from ≡ run (plainByte k) (now s)) × (length (now s) < 4294967296) ⌝ }
     ensures { λ r. ⌜ Measures (body k (now (s .entry))) r ⌝ }
 {
-    let mut i = plain_run::front_end(s, k);
-    // most bodies are such a run
-    if scan::byte_at(s, i) == b'"' {
-        return Measured {
-            at: i,
-            len: i,
-            end: Ending::Close,
-        };
-    }
     let last = utf8::last_len(s);
     let end = s.len() - last;
-    let mut n = i;
+    let mut i = from;
+    let mut n = from;
     loop {
         let b = scan::byte_at(s, i);
         if b == b'"' {
@@ -289,6 +287,28 @@ fn measure(s: &[u8], k: Allowed) -> Measured
         at: i,
         len: n,
         end: ending_at(s, i, last, k),
+    }
+}
+
+// The body of a quoted string: s is what stands behind the opening quote, to the end of the text. Most bodies are a run of bytes that stand for
+// themselves and the closing quote; where neither that nor a backslash ends the run, the body is refused.
+fn measure(s: &[u8], k: Allowed) -> Measured
+    requires { ⌜ length (now s) < 4294967296 ⌝ }
+    ensures { λ r. ⌜ Measures (body k (now (s .entry))) r ⌝ }
+{
+    let e = plain_run::front_end(s, k);
+    match scan::byte_at(s, e) {
+        b'"' => Measured {
+            at: e,
+            len: e,
+            end: Ending::Close,
+        },
+        b'\\' => measure_on(s, e, k),
+        _ => Measured {
+            at: e,
+            len: e,
+            end: plain_ending(s, e, k),
+        },
     }
 }
 

@@ -46,6 +46,10 @@ fn closed(text: &[u8], at: usize, value: u32, q: Quote) -> Single
     if scan::byte_at(text, at) == b'\'' {
         return suffixed(text, at + 1, value, q);
     }
+    // one character too many needs no search
+    if scan::byte_at(text, at + 1) == b'\'' {
+        return Single::Refused(q.overlong(), Span::Nowhere);
+    }
     let rest = &text[at..];
     if scan::run_except(rest, b'\'') == rest.len() {
         return Single::Refused(q.unterminated(), Span::Nowhere);

@@ -46,6 +46,9 @@ fn entry_for(text: &[u8]) -> u64
     if b == b'\'' {
         return 4;
     }
+    if b == b'b' {
+        return b_entry(text);
+    }
     if parse::is_decimal(b) {
         return number_entry(text);
     }
@@ -53,7 +56,6 @@ fn entry_for(text: &[u8]) -> u64
         b'f' => 1,
         b't' => 1,
         b'r' => 5,
-        b'b' => b_entry(text),
         b'c' => 8,
         _ => 9,
     }

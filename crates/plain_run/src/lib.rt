@@ -13,20 +13,20 @@ ghost use Rattle.plain_run.specs.Windows.{haltBy, haltIn};
 pub fn is_plain(b: u8, k: Allowed) -> bool
     ensures { λ r. ⌜ r ≡ plainByte k b ⌝ }
 {
-    if b == b'\\' {
+    if b'"' < b {
+        if 127 < b {
+            return k.unicode();
+        }
+        return b != b'\\';
+    }
+    if b == b'"' {
         return false;
     }
     if b == b'\r' {
         return false;
     }
-    if b == b'"' {
-        return false;
-    }
     if b == 0 {
         return k.allow_nul();
-    }
-    if 127 < b {
-        return k.unicode();
     }
     true
 }
@@ -121,14 +121,14 @@ pub fn run_end(s: &[u8], from: usize, k: Allowed) -> usize
 }
 
 // The lowest byte that may stand for itself.
-fn lowest_plain(k: Allowed) -> u8
+pub fn lowest_plain(k: Allowed) -> u8
     ensures { λ r. ⌜ r ≡ cond (allowNul k) 0 1 ⌝ }
 {
     if k.allow_nul() { 0 } else { 1 }
 }
 
 // The highest byte that may stand for itself.
-fn highest_plain(k: Allowed) -> u8
+pub fn highest_plain(k: Allowed) -> u8
     ensures { λ r. ⌜ r ≡ cond (unicode k) 255 127 ⌝ }
 {
     if k.unicode() { 255 } else { 127 }

@@ -1,11 +1,12 @@
--- The flags of a list, part by part, and the run of a scan from an offset.
+-- The flags of a list, part by part, the run of a scan from an offset, and of one with no hashes.
 -- Assumes nothing.
 use mathlib.Core.Path.{_≡_, refl, ap, sym, _∙_}
-use mathlib.Core.Bool.{Bool, true, false, cond}
+use mathlib.Core.Bool.{Bool, true, false, cond, not, _&&_}
 use mathlib.Core.List.{List, [], _∷_}
 use Prim.Native.Nat.{ℕ, zero, suc, _+_, _-_, _≤_, _<_}
 use native.Mathlib.Nat.{add-comm}
 use native.Mathlib.Omega.{arith}
+use lib.Dec.{eqb}
 use lib.ListN.{length, getD, take, drop, length-drop}
 use lib.Seq.{take-nil, drop-nil, drop-drop, getD-drop}
 use Rattle.scan.specs.Run.{run}
@@ -13,7 +14,7 @@ use Rattle.scan.specs.Sets.{only}
 use Rattle.scan.proofs.Runs as runs
 use Rattle.escape.specs.declared.Allowed.{Allowed}
 use Rattle.plain_run.proofs.Blocks as blocks
-use Rattle.raw.specs.Scan.{passes, flags, rawRun}
+use Rattle.raw.specs.Scan.{rawPlain, beforeQuote, markOf, passes, flags, rawRun}
 
 -- a flag is 1 where its test is true
 flag : (t : Bool) → only 1 (cond t 1 0) ≡ t
@@ -109,3 +110,22 @@ module _ (k : Allowed) (h m : ℕ) (s : List ℕ) where
     -- or goes on behind it
     pub scan-behind : n ≤ r → i + rawRun k h m (drop i s) ≡ i + n + rawRun k h m (drop (i + n) s)
     scan-behind g = omega (arith, rest i, rest (i + n), blocks.block-past (only 1) all i n r block g)
+
+-- ---- a scan with no hashes
+
+-- the mark is the quote itself, so that a byte passes where it may stand before the first quote
+before : (k : Allowed) (b : ℕ) → passes k 34 b b ≡ beforeQuote k b
+unfolding passes beforeQuote
+before k b = go (rawPlain k b) (eqb b 34)
+  where
+    go : (t p : Bool) → cond t (not (p && p)) false ≡ cond p false t
+    go true true = refl
+    go true false = refl
+    go false true = refl
+    go false false = refl
+
+-- the scan passes what may stand there
+pub scan-quote : (k : Allowed) (s : List ℕ) → rawRun k 0 (markOf 0) s ≡ run (beforeQuote k) s
+unfolding markOf
+scan-quote k [] = refl
+scan-quote k (b ∷ s) = rw (flag (passes k 34 b b), before k b, scan-quote k s)

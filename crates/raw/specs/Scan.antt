@@ -15,6 +15,10 @@ use Rattle.escape.specs.declared.Allowed.{Allowed}
 unfoldable pub rawPlain : Allowed → ℕ → Bool
 rawPlain k b = cond (eqb b 13) false (cond (eqb b 0) (allowNul k) (cond (ltb 127 b) (unicode k) true))
 
+-- a byte that may stand before the first quote of a raw body: one that it may hold, and no quote
+unfoldable pub beforeQuote : Allowed → ℕ → Bool
+beforeQuote k b = cond (eqb b 34) false (rawPlain k b)
+
 -- what stands h bytes behind a quote that closes: with no hashes the quote itself, else the last hash
 unfoldable pub markOf : ℕ → ℕ
 markOf h = cond (eqb h 0) 34 35

@@ -20,7 +20,8 @@ ghost use Rattle.body.specs.Code.{Stopped};
 ghost use Rattle.body.specs.Step.{stop, endOf, nextOf, rawStepOf};
 ghost use Rattle.body.specs.Body.{rawBody, Measures};
 ghost use Rattle.body.specs.Quote.{quoteOf, rawOf};
-ghost use Rattle.raw.specs.Scan.{rawPlain, markOf, passes, flags, rawRun};
+ghost use Rattle.plain_run.specs.Windows.{haltBy, haltIn};
+ghost use Rattle.raw.specs.Scan.{rawPlain, beforeQuote, markOf, passes, flags, rawRun};
 
 // What stands at i of a raw body with h hashes.
 fn raw_step(s: &[u8], i: usize, h: usize, k: Allowed) -> Step
@@ -213,11 +214,113 @@ fn measure_on(s: &[u8], h: usize, k: Allowed) -> Measured
     }
 }
 
-// The same. A body that closes in its first 32 bytes is told before the loop.
+// Whether a byte may stand before the first quote of a raw body.
+fn is_before_quote(b: u8, k: Allowed) -> bool
+    ensures { λ r. ⌜ r ≡ beforeQuote k b ⌝ }
+{
+    if b'"' < b {
+        if b < 128 {
+            return true;
+        }
+        return k.unicode();
+    }
+    if b == b'"' {
+        return false;
+    }
+    if b == b'\r' {
+        return false;
+    }
+    if b == 0 {
+        return k.allow_nul();
+    }
+    true
+}
+
+// Where the bytes before the first quote end, byte by byte.
+fn run_before_quote(s: &[u8], from: usize, k: Allowed) -> usize
+    requires { ⌜ from ≤ length (now s) ⌝ }
+    ensures { λ r. ⌜ r ≡ from + run (beforeQuote k) (drop from (now (s .entry))) ⌝ }
+{
+    let mut i = from;
+    while i < s.len() {
+        if !is_before_quote(s[i], k) {
+            return i;
+        }
+        i += 1;
+    }
+    i
+}
+
+// 127 for a byte that may stand before the first quote, 128 for another, as in a quoted body's windows (`plain_run`).
+fn halt(b: u8, k: Allowed) -> u8
+    ensures { λ r. ⌜ r ≡ haltBy (beforeQuote k b) ⌝ }
+{
+    127
+        + scan::bit(b == b'"')
+        + scan::bit(b == b'\r')
+        + scan::bit(b < plain_run::lowest_plain(k))
+        + scan::bit(plain_run::highest_plain(k) < b)
+}
+
+// 127 where the two bytes at an offset may stand before the first quote, else 128.
+fn halt_two(s: &[u8], at: usize, k: Allowed) -> u8
+    requires { ⌜ at + 2 ≤ length (now s) ⌝ }
+    ensures { λ r. ⌜ r ≡ haltIn (beforeQuote k) at 2 (now (s .entry)) ⌝ }
+{
+    scan::larger(halt(s[at], k), halt(s[at + 1], k))
+}
+
+// The same of eight bytes.
+fn halt_eight(s: &[u8], at: usize, k: Allowed) -> u8
+    requires { ⌜ at + 8 ≤ length (now s) ⌝ }
+    ensures { λ r. ⌜ r ≡ haltIn (beforeQuote k) at 8 (now (s .entry)) ⌝ }
+{
+    scan::larger(
+        scan::larger(halt_two(s, at, k), halt_two(s, at + 2, k)),
+        scan::larger(halt_two(s, at + 4, k), halt_two(s, at + 6, k)),
+    )
+}
+
+// Where the bytes before the first quote end, by eight at once up to the last byte, which most often is the quote.
+fn quote_end(s: &[u8], k: Allowed) -> usize
+    ensures { λ r. ⌜ r ≡ run (beforeQuote k) (now (s .entry)) ⌝ }
+{
+    if s.len() < 9 {
+        return run_before_quote(s, 0, k);
+    }
+    let n = s.len() - 1;
+    let last = n - 8;
+    let mut at = 0;
+    while halt_eight(s, at, k) < 128 {
+        if at == last {
+            if s[n] == b'"' {
+                return n;
+            }
+            return run_before_quote(s, n, k);
+        }
+        at = scan::nearer(at, 8, last);
+    }
+    run_before_quote(s, at, k)
+}
+
+// The body of a raw string with h hashes, as `measure_on` has it. Two ways come before its loop: of a short body without hashes, which ends at
+// its first quote, and of one that closes in its first 32 bytes.
 fn measure_raw(s: &[u8], h: usize, k: Allowed) -> Measured
     requires { ⌜ h ≤ 255 ⌝ }
     ensures { λ r. ⌜ Measures (rawBody k h (now (s .entry))) r ⌝ }
 {
+    if h == 0 {
+        if s.len() < 66 {
+            let first = quote_end(s, k);
+            if scan::byte_at(s, first) == b'"' {
+                return Measured {
+                    at: first,
+                    len: first,
+                    end: Ending::Close,
+                };
+            }
+        }
+    }
     let stop = scan::nearer(0, 32, s.len());
     let e = scan_to(s, 0, stop, h, closing_mark(h), k);
     if e < stop {

@@ -34,10 +34,10 @@ fn starts_suffix(b: u8) -> bool
 fn is_suffix_rest(b: u8) -> bool
     ensures { λ r. ⌜ r ≡ suffixRest b ⌝ }
 {
-    if starts_suffix(b) {
-        return true;
+    if b <= b'9' {
+        return b'0' <= b;
     }
-    parse::is_decimal(b)
+    starts_suffix(b)
 }
 
 fn rest_mark(b: u8) -> u8

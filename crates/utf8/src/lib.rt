@@ -137,14 +137,19 @@ pub fn only_char(text: &[u8]) -> Decoded
         return Decoded::Bad;
     }
     let first = text[0];
+    if first < 0x80 {
+        if text.len() != 1 {
+            return Decoded::Bad;
+        }
+        return Decoded::Char {
+            scalar: wide(first),
+            len: 1,
+        };
+    }
     if char_len(first) != text.len() {
         return Decoded::Bad;
     }
     match text.len() {
-        1 => Decoded::Char {
-            scalar: wide(first),
-            len: 1,
-        },
         2 => two(first, text[1]),
         3 => three(first, text[1], text[2]),
         _ => four(first, text[1], text[2], text[3]),

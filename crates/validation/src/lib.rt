@@ -8,7 +8,7 @@ ghost use Rattle.utf8.specs.Valid.{isUtf8};
 ghost use Rattle.utf8.specs.Cut.{tail};
 ghost use Rattle.validation.specs.Pairs.{PairAt};
 ghost use Rattle.block_validation.specs.HighBytes.{highestFrom};
-ghost use Rattle.validation.specs.Windows.{highestIn};
+ghost use Rattle.validation.specs.Windows.{highestIn, asciiFront};
 
 // Whether a byte 10xxxxxx stands at an offset; behind the end there is none.
 fn has_tail(text: &[u8], at: usize) -> bool
@@ -155,8 +155,18 @@ fn is_ascii(text: &[u8]) -> bool
     block_validation::highest(text) < 128
 }
 
-// Whether a short text is UTF-8, character by character where it is not ASCII. Where the last eight bytes are ASCII, only what stands before
-// them is gone through; an ASCII byte is stepped over without a call.
+// Four, where a text has eight bytes or more and its first four are ASCII; else 0.
+fn ascii_front(text: &[u8]) -> usize
+    ensures { λ r. ⌜ r ≡ asciiFront (now (text .entry)) ⌝ }
+{
+    if text.len() < 8 {
+        return 0;
+    }
+    if highest_four(text, 0) < 128 { 4 } else { 0 }
+}
+
+// Whether a short text is UTF-8, character by character where it is not ASCII. Where the first four bytes are ASCII, they are not gone through,
+// nor the last eight where they are; another ASCII byte is stepped over without a call.
 fn short_utf8(text: &[u8]) -> bool
     ensures { λ r. ⌜ r ≡ isUtf8 (now (text .entry)) ⌝ }
 {
@@ -170,7 +180,7 @@ fn short_utf8(text: &[u8]) -> bool
             stop = last;
         }
     }
-    let mut at = 0;
+    let mut at = ascii_front(text);
     while at < stop {
         if text[at] < 0x80 {
             at += 1;

@@ -29,57 +29,56 @@ returns-3 : tie.Need-returns-3
 unfolding entryBy decDigit classOf
 returns-3 c = rw (by-byte (c .before .before .before), c .if3 .taken)
 
+b-entry-requires : tie.Need-b-entry-requires
+b-entry-requires c κs = search needs
+
+returns-4 : tie.Need-returns-4
+unfolding entryBy decDigit classOf
+returns-4 c = rw (by-byte (c .before .before .before .before .before), c .before .if4 .taken) (c .b-entry .ensures)
+
 is-decimal-requires : tie.Need-is-decimal-requires
 is-decimal-requires c κs = search needs
 
 number-entry-requires : tie.Need-number-entry-requires
 number-entry-requires c κs = search needs
 
-returns-4 : tie.Need-returns-4
-unfolding entryBy
-returns-4 c =
-    let i = c .before .before in
-    rw (by-byte (i .before .before .before .before), sym (i .is-decimal .ensures) ∙ c .before .if4 .taken) (c .number-entry .ensures)
-
-b-entry-requires : tie.Need-b-entry-requires
-b-entry-requires c κs = search needs
-
 returns-5 : tie.Need-returns-5
 unfolding entryBy
 returns-5 c =
     let i = c .before .before in
-    rw (by-byte (i .before .before .before .before), sym (i .is-decimal .ensures) ∙ c .before .if4 .left, c .match .keys1)
+    rw (by-byte (i .before .before .before .before .before), sym (i .is-decimal .ensures) ∙ c .before .if5 .taken) (c .number-entry .ensures)
 
 returns-6 : tie.Need-returns-6
 unfolding entryBy
 returns-6 c =
     let i = c .before .before in
-    rw (by-byte (i .before .before .before .before), sym (i .is-decimal .ensures) ∙ c .before .if4 .left, c .match .keys2)
+    rw (by-byte (i .before .before .before .before .before), sym (i .is-decimal .ensures) ∙ c .before .if5 .left, c .match .keys1)
 
 returns-7 : tie.Need-returns-7
 unfolding entryBy
 returns-7 c =
     let i = c .before .before in
-    rw (by-byte (i .before .before .before .before), sym (i .is-decimal .ensures) ∙ c .before .if4 .left, c .match .keys3)
+    rw (by-byte (i .before .before .before .before .before), sym (i .is-decimal .ensures) ∙ c .before .if5 .left, c .match .keys2)
 
 returns-8 : tie.Need-returns-8
 unfolding entryBy
 returns-8 c =
-    let i = c .before .before .before in
-    rw (by-byte (i .before .before .before .before), sym (i .is-decimal .ensures) ∙ c .before .before .if4 .left, c .before .match .keys4) (c .b-entry .ensures)
+    let i = c .before .before in
+    rw (by-byte (i .before .before .before .before .before), sym (i .is-decimal .ensures) ∙ c .before .if5 .left, c .match .keys3)
 
 returns-9 : tie.Need-returns-9
 unfolding entryBy
 returns-9 c =
     let i = c .before .before in
-    rw (by-byte (i .before .before .before .before), sym (i .is-decimal .ensures) ∙ c .before .if4 .left, c .match .keys5)
+    rw (by-byte (i .before .before .before .before .before), sym (i .is-decimal .ensures) ∙ c .before .if5 .left, c .match .keys4)
 
 returns-10 : tie.Need-returns-10
 unfolding entryBy
 returns-10 c =
     let i = c .before .before in
     let m = c .match .rest in
-    rw (by-byte (i .before .before .before .before), sym (i .is-decimal .ensures) ∙ c .before .if4 .left, ne-eqb _ _ (i .before .if3 .left), ne-eqb _ _ (i .before .before .if2 .left), ne-eqb _ _ (m .0 .0 .0 .0 .1), ne-eqb _ _ (m .0 .0 .0 .1), ne-eqb _ _ (m .0 .0 .1), ne-eqb _ _ (m .0 .1), ne-eqb _ _ (m .1))
+    let b = i .before in
+    rw (by-byte (b .before .before .before .before), sym (i .is-decimal .ensures) ∙ c .before .if5 .left, ne-eqb _ _ (b .if4 .left), ne-eqb _ _ (b .before .if3 .left), ne-eqb _ _ (b .before .before .if2 .left), ne-eqb _ _ (m .0 .0 .0 .1), ne-eqb _ _ (m .0 .0 .1), ne-eqb _ _ (m .0 .1), ne-eqb _ _ (m .1))
 
 pub entry-for-spec : {M : Type 1} → statement M
 entry-for-spec =
@@ -89,10 +88,10 @@ entry-for-spec =
     shared-slice-read-b
     returns-2
     returns-3
+    b-entry-requires
+    returns-4
     is-decimal-requires
     number-entry-requires
-    returns-4
-    b-entry-requires
     returns-5
     returns-6
     returns-7

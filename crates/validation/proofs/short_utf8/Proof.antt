@@ -1,6 +1,6 @@
 -- `validation::short_utf8` meets its contract.
 -- Assumes nothing.
-use mathlib.Core.Path.{_≡_, refl, sym, _∙_}
+use mathlib.Core.Path.{_≡_, sym, _∙_}
 use mathlib.Core.Logic.{⊎-elim}
 use Prim.Native.Nat.{_+_, _-_, _≤_, _<_}
 use native.Mathlib.Omega.{arith}
@@ -12,7 +12,7 @@ use Rattle.utf8.proofs.Valid.{isUtf8-char, isUtf8-bad, isUtf8-ascii}
 use Rattle.block_validation.specs.HighBytes.{highestFrom}
 use Rattle.block_validation.proofs.HighBytes.{highest-above}
 use Rattle.block_validation.proofs.Ranges.{len-one}
-use Rattle.validation.proofs.Ends.{AsciiFrom, from-end, from-last, from-utf8}
+use Rattle.validation.proofs.Ends.{AsciiFrom, from-end, from-last, from-utf8, ascii-front}
 use Rattle.validation.proofs.short_utf8.Statement.{statement}
 use Rattle.validation.proofs.short_utf8.Tie as tie
 
@@ -46,8 +46,11 @@ behind c =
     (⊎-elim (λ w. rw (w .3) (from-end t)) (λ w. rw (w .1) (from-end t)))
     (c .if2 .came)
 
+ascii-front-requires : tie.Need-ascii-front-requires Inv-loop μ-loop
+ascii-front-requires c κs = search needs
+
 loop-holds : tie.Need-loop-holds Inv-loop μ-loop
-loop-holds c = (behind c .0, refl)
+loop-holds c = (behind (c .before) .0, rw (c .ascii-front .ensures) (ascii-front _))
 
 shared-slice-read-if4 : tie.Need-shared-slice-read-if4 Inv-loop μ-loop
 shared-slice-read-if4 c = search needs
@@ -61,7 +64,7 @@ loop-less c = search needs
 loop-again : tie.Need-loop-again Inv-loop μ-loop
 loop-again c =
     let b = c .before .before .before in
-    let t = b .before .before .before .before .before .args .text .now in
+    let t = b .before .before .before .before .before .before .args .text .now in
     let one = len-one t (b .loop .at) (search needs) (c .if4 .taken) in
     (b .loop .inv .0, isUtf8-char t (b .loop .at) 1 one (λ e. omega arith) .2 ∙ b .loop .inv .1)
 
@@ -71,17 +74,17 @@ valid-len-requires c κs = search needs
 returns-2 : tie.Need-returns-2 Inv-loop μ-loop
 returns-2 c =
     let b = c .before .before .before .before .before in
-    let t = b .before .before .before .before .before .args .text .now in
+    let t = b .before .before .before .before .before .before .args .text .now in
     sym (isUtf8-bad t (b .loop .at) _ (c .before .valid-len .ensures) (search needs) (c .if5 .taken)) ∙ b .loop .inv .1
 
 -- the character that a turn finds
 found : (c : tie.Else5 Inv-loop μ-loop) → let b = c .before .before .before .before .before in
-    let t = b .before .before .before .before .before .args .text .now in
+    let t = b .before .before .before .before .before .before .args .text .now in
     let n = c .before .valid-len .result in
     (0 < n) × (b .loop .at + n ≤ length t) × (isUtf8 (drop (b .loop .at + n) t) ≡ isUtf8 (drop (b .loop .at) t))
 found c =
     let b = c .before .before .before .before .before in
-    isUtf8-char (b .before .before .before .before .before .args .text .now) (b .loop .at) _ (c .before .valid-len .ensures) (c .if5 .left)
+    isUtf8-char (b .before .before .before .before .before .before .args .text .now) (b .loop .at) _ (c .before .valid-len .ensures) (c .if5 .left)
 
 add-at-2 : tie.Need-add-at-2 Inv-loop μ-loop
 add-at-2 c = omega (arith, found c)
@@ -93,7 +96,7 @@ loop-again-2 : tie.Need-loop-again-2 Inv-loop μ-loop
 loop-again-2 c = let i = c .before .before .before .before .before .loop .inv in (i .0, found c .2 ∙ i .1)
 
 returns-3 : tie.Need-returns-3 Inv-loop μ-loop
-returns-3 c = let b = c .before in from-utf8 _ _ _ (behind (b .before)) (c .loop-test .left) ∙ b .loop .inv .1
+returns-3 c = let b = c .before in from-utf8 _ _ _ (behind (b .before .before)) (c .loop-test .left) ∙ b .loop .inv .1
 
 pub short-utf8-spec : {M : Type 1} → statement M
 short-utf8-spec =
@@ -105,6 +108,7 @@ short-utf8-spec =
     returns
     sub-last
     highest-eight-requires
+    ascii-front-requires
     loop-holds
     shared-slice-read-if4
     add-at
