@@ -293,22 +293,22 @@ fn middle_class(b: u8) -> u8
 pub fn class_of(b: u8) -> u8
     ensures { λ r. ⌜ r ≡ classOf b ⌝ }
 {
-    if b < b'0' {
-        return low_class(b);
-    }
     if b <= b'9' {
+        if b < b'0' {
+            return low_class(b);
+        }
         return b - 48;
     }
-    if b < b'A' {
-        return 19;
-    }
     if b <= b'F' {
+        if b < b'A' {
+            return 19;
+        }
         return b - 55;
     }
-    if b <= b'Z' {
-        return 17;
-    }
     if b < b'a' {
+        if b <= b'Z' {
+            return 17;
+        }
         return middle_class(b);
     }
     if b <= b'f' {

@@ -113,13 +113,13 @@ fn passes_at(s: &[u8], i: usize, h: usize, mark: u8, k: Allowed) -> bool
     scan::byte_at(s, i + h) != mark
 }
 
-// Where the bytes end that are passed over, byte by byte, at `stop` at the latest.
-fn scan_to(s: &[u8], from: usize, stop: usize, h: usize, mark: u8, k: Allowed) -> usize
-    requires { ⌜ (from ≤ stop) × ((stop ≤ length (now s)) × (h ≤ 255)) ⌝ }
-    ensures { λ r. ⌜ r ≡ from + min (stop - from) (rawRun k h mark (drop from (now (s .entry)))) ⌝ }
+// Where the bytes end that are passed over, byte by byte.
+fn scan_from(s: &[u8], from: usize, h: usize, mark: u8, k: Allowed) -> usize
+    requires { ⌜ (from ≤ length (now s)) × (h ≤ 255) ⌝ }
+    ensures { λ r. ⌜ r ≡ from + rawRun k h mark (drop from (now (s .entry))) ⌝ }
 {
     let mut i = from;
-    while i < stop {
+    while i < s.len() {
         if !passes_at(s, i, h, mark, k) {
             return i;
         }
@@ -154,7 +154,7 @@ fn raw_block_run(s: &[u8], far: &[u8], mark: u8, k: Allowed) -> u8
 }
 
 // Where the bytes end that are passed over, by blocks while there are 64 bytes and h behind them.
-fn raw_block_end(s: &[u8], from: usize, h: usize, mark: u8, k: Allowed) -> usize
+fn raw_end(s: &[u8], from: usize, h: usize, mark: u8, k: Allowed) -> usize
     requires { ⌜ (from ≤ length (now s)) × (h ≤ 255) ⌝ }
     ensures { λ r. ⌜ r ≡ from + rawRun k h mark (drop from (now (s .entry))) ⌝ }
 {
@@ -169,20 +169,7 @@ fn raw_block_end(s: &[u8], from: usize, h: usize, mark: u8, k: Allowed) -> usize
         }
         i = e;
     }
-    scan_to(s, i, s.len(), h, mark, k)
-}
-
-// Where the bytes end that are passed over. A short way pays for no block.
-fn raw_end(s: &[u8], from: usize, h: usize, mark: u8, k: Allowed) -> usize
-    requires { ⌜ (from ≤ length (now s)) × (h ≤ 255) ⌝ }
-    ensures { λ r. ⌜ r ≡ from + rawRun k h mark (drop from (now (s .entry))) ⌝ }
-{
-    let stop = scan::nearer(from, 32, s.len());
-    let i = scan_to(s, from, stop, h, mark, k);
-    if i < stop {
-        return i;
-    }
-    raw_block_end(s, i, h, mark, k)
+    scan_from(s, i, h, mark, k)
 }
 
 // The body of a raw string with h hashes, which are counted at the quotes alone that have the mark behind them. It stands for its own
@@ -218,22 +205,10 @@ fn measure_on(s: &[u8], h: usize, k: Allowed) -> Measured
 fn is_before_quote(b: u8, k: Allowed) -> bool
     ensures { λ r. ⌜ r ≡ beforeQuote k b ⌝ }
 {
-    if b'"' < b {
-        if b < 128 {
-            return true;
-        }
-        return k.unicode();
-    }
     if b == b'"' {
         return false;
     }
-    if b == b'\r' {
-        return false;
-    }
-    if b == 0 {
-        return k.allow_nul();
-    }
-    true
+    is_raw_plain(b, k)
 }
 
 // Where the bytes before the first quote end, byte by byte.
@@ -303,30 +278,15 @@ fn quote_end(s: &[u8], k: Allowed) -> usize
     run_before_quote(s, at, k)
 }
 
-// The body of a raw string with h hashes, as `measure_on` has it. Two ways come before its loop: of a short body without hashes, which ends at
-// its first quote, and of one that closes in its first 32 bytes.
+// The body of a raw string with h hashes, as `measure_on` has it. A short one without hashes ends at its first quote.
 fn measure_raw(s: &[u8], h: usize, k: Allowed) -> Measured
     requires { ⌜ h ≤ 255 ⌝ }
     ensures { λ r. ⌜ Measures (rawBody k h (now (s .entry))) r ⌝ }
 {
     if h == 0 {
         if s.len() < 66 {
-            let first = quote_end(s, k);
-            if scan::byte_at(s, first) == b'"' {
-                return Measured {
-                    at: first,
-                    len: first,
-                    end: Ending::Close,
-                };
-            }
-        }
-    }
-    let stop = scan::nearer(0, 32, s.len());
-    let e = scan_to(s, 0, stop, h, closing_mark(h), k);
-    if e < stop {
-        if s[e] == b'"' {
-            let next = e + 1;
-            if has_hashes(s, next, h) {
+            let e = quote_end(s, k);
+            if scan::byte_at(s, e) == b'"' {
                 return Measured {
                     at: e,
                     len: e,

@@ -29,7 +29,7 @@ returns-4 c = sym (class-upper-hex _ (omega arith) (omega arith))
 
 returns-5 : tie.Need-returns-5
 unfolding classOf
-returns-5 c = sym (class-from (λ b. 17) 71 20 tt (c .before .before .before .before .before .args .b) (omega arith) (omega arith))
+returns-5 c = sym (class-from (λ b. 17) 71 20 tt (c .before .before .before .before .args .b) (omega arith) (omega arith))
 
 middle-class-requires : tie.Need-middle-class-requires
 middle-class-requires c κs = search needs
@@ -45,11 +45,11 @@ returns-7 c = sym (class-lower-hex _ (omega arith) (omega arith))
 
 returns-8 : tie.Need-returns-8
 unfolding classOf
-returns-8 c = sym (class-from (λ b. 17) 103 20 tt (c .before .before .before .before .before .before .before .before .args .b) (omega arith) (omega arith))
+returns-8 c = sym (class-from (λ b. 17) 103 20 tt (c .before .before .before .before .before .args .b) (omega arith) (omega arith))
 
 returns-9 : tie.Need-returns-9
 unfolding classOf
-returns-9 c = sym (class-from (λ b. 19) 123 5 tt (c .before .before .before .before .before .before .before .before .before .args .b) (omega arith) (omega arith))
+returns-9 c = sym (class-from (λ b. 19) 123 5 tt (c .before .before .before .before .before .before .args .b) (omega arith) (omega arith))
 
 returns-10 : tie.Need-returns-10
 returns-10 c = sym (class-above _ (c .if9 .left))
