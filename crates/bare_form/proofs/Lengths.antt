@@ -13,7 +13,7 @@ use Rattle.grammar.specs.Meaning as worth
 use Rattle.form.specs.Form.{bareForm, faultOf, integerForm, reducedForm}
 use Rattle.form.specs.Reduced.{reduce}
 use Rattle.grammar.specs.Decimal.{Decimal}
-use Rattle.integer_value.specs.Value.{within}
+use Rattle.integer_value.specs.Value.{numberWithin}
 use Rattle.integer_value.specs.declared.Within.the-variants.{Number, Over}
 use Rattle.utf8.specs.Utf8.{Scalar, encode}
 use Rattle.quoting.specs.Styled.{styledForm, styledForms}
@@ -42,7 +42,7 @@ byte-length b x = rw (byte-style 39 b, length-append) (omega arith)
 
 module _ (m : ℕ) (x : List ℕ) where
   -- a number that is at most the largest
-  pub is-within : {n : ℕ} → Number n ≡ within 18446744073709551615 m → len (length (bareForm (worth.integer n) x)) ≡ bareLen (worth.integer m) x
+  pub is-within : {n : ℕ} → Number n ≡ numberWithin 18446744073709551615 m → len (length (bareForm (worth.integer n) x)) ≡ bareLen (worth.integer m) x
   unfolding bareLen
   is-within {n} = by-test (leb m 18446744073709551615)
     where
@@ -52,7 +52,7 @@ module _ (m : ℕ) (x : List ℕ) where
       by-test false e = let z : _≡_ {A = ℕ} 0 1 = cc in absurd (omega arith)
 
   -- or above it
-  pub is-over : Over ≡ within 18446744073709551615 m → bad 45 none ≡ bareLen (worth.integer m) x
+  pub is-over : Over ≡ numberWithin 18446744073709551615 m → bad 45 none ≡ bareLen (worth.integer m) x
   unfolding bareLen
   is-over = by-test (leb m 18446744073709551615)
     where

@@ -21,7 +21,7 @@ ghost use Rattle.buffer.specs.Buffer.{Wrote};
 ghost use Rattle.utf8.specs.Utf8.{Scalar};
 ghost use Rattle.grammar.specs.Meaning as worth;
 ghost use Rattle.form.specs.Form.{bareForm};
-ghost use Rattle.integer_value.specs.Value.{within, number};
+ghost use Rattle.integer_value.specs.Value.{numberWithin, number};
 ghost use Rattle.scaling.specs.Scaled.{part};
 ghost use Rattle.literal.specs.Readings.{readAt};
 ghost use Rattle.numbers.specs.Numbers.{kindIn};
@@ -54,7 +54,7 @@ fn byte_style() -> Style
 // An integer's number, where it is at most 2^64 − 1.
 pub fn number_of(text: &[u8], lit: IntegerLit) -> Within
     requires { ⌜ outcomeOf (reading.Integer lit) ≡ readAt 0 (now text) ⌝ }
-    ensures { λ r. ⌜ r ≡ within 18446744073709551615 (number (baseOf (lit .base)) (part (lit .«start_main_part») (lit .«end_main_part») (now (text .entry)))) ⌝ }
+    ensures { λ r. ⌜ r ≡ numberWithin 18446744073709551615 (number (baseOf (lit .base)) (part (lit .«start_main_part») (lit .«end_main_part») (now (text .entry)))) ⌝ }
 {
     let start = lit.start_main_part;
     let end = lit.end_main_part;

@@ -79,7 +79,7 @@ fn mask(t: bool) -> u8
 }
 
 // How much a byte is above another, or 0.
-fn over(x: u8, n: u8) -> u8
+fn excess(x: u8, n: u8) -> u8
     ensures { λ r. ⌜ r ≡ x - n ⌝ }
 {
     if x < n { 0 } else { x - n }
@@ -104,7 +104,10 @@ fn four_against(x: u8) -> u8
 fn fault(c: u8, b: u8, a: u8, x: u8) -> u8
     ensures { λ r. ⌜ r ≡ faultOf c b a x ⌝ }
 {
-    let wanted = scan::larger(over(a, 0x40), scan::larger(over(b, 0x60), over(c, 0x70)));
+    let wanted = scan::larger(
+        excess(a, 0x40),
+        scan::larger(excess(b, 0x60), excess(c, 0x70)),
+    );
     let odd = mask((127 < wanted) != utf8::is_tail(x));
     let never = scan::larger(mask(x / 2 == 0x60), mask(0xF4 < x));
     let outside = scan::larger(mask(a == three_against(x)), mask(a == four_against(x)));

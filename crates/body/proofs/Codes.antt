@@ -25,7 +25,7 @@ use Rattle.escape.specs.declared.Unescaped.the-variants.{Byte}
 use Rattle.escape.proofs.Escapes.{too-short}
 use Rattle.escape_code.proofs.Codes.{Coded, code-len, code-value, EscapeCoded, escape-coded}
 use Rattle.body.specs.Step.{Next, piece, stop, ofEscape, lineBreakOf, backslashOf, plainOf, stepOf}
-use Rattle.body.specs.Code.{nextCode, codeOf}
+use Rattle.body.specs.Code.{nextCode, backslashCode}
 use Rattle.body.proofs.Steps as steps
 
 -- ---- what a code tells
@@ -48,9 +48,9 @@ backslash-coded k s =
     of-escape (bad num p) h = tt
 
 -- a code other than 0 is that of the piece that a backslash starts
-module _ (k : Allowed) (s : List ℕ) (c : ℕ) (e : c ≡ codeOf k s) (z : c ≡ 0 → ⊥) where
+module _ (k : Allowed) (s : List ℕ) (c : ℕ) (e : c ≡ backslashCode k s) (z : c ≡ 0 → ⊥) where
   pub code-piece : (stepOf k s ≡ backslashOf k s) × (backslashOf k s ≡ piece (codedLen c) (codedValue c))
-  unfolding codeOf stepOf
+  unfolding backslashCode stepOf
   code-piece = by-front s e
     where
       of-next : (x : Next) → NextCoded x → c ≡ nextCode x → x ≡ piece (codedLen c) (codedValue c)
@@ -62,7 +62,7 @@ module _ (k : Allowed) (s : List ℕ) (c : ℕ) (e : c ≡ codeOf k s) (z : c �
       by-test s p true e = (refl, of-next (backslashOf k s) (backslash-coded k s) e)
       by-test s p false e = absurd (z e)
 
-      by-front : (s : List ℕ) → c ≡ codeOf k s → (stepOf k s ≡ backslashOf k s) × (backslashOf k s ≡ piece (codedLen c) (codedValue c))
+      by-front : (s : List ℕ) → c ≡ backslashCode k s → (stepOf k s ≡ backslashOf k s) × (backslashOf k s ≡ piece (codedLen c) (codedValue c))
       by-front [] e = absurd (z e)
       by-front (b ∷ s) e = by-test (b ∷ s) (plainOf k b) (eqb b 92) e
 
@@ -97,7 +97,7 @@ backslash-x k s e =
     (λ b. tt))))
 
 -- where `x` stands behind the backslash
-pub code-x : (k : Allowed) (s : List ℕ) (i c : ℕ) → c ≡ codeOf k (drop i s) → (c ≡ 0 → ⊥) → getD s (i + 1) 0 ≡ 120
+pub code-x : (k : Allowed) (s : List ℕ) (i c : ℕ) → c ≡ backslashCode k (drop i s) → (c ≡ 0 → ⊥) → getD s (i + 1) 0 ≡ 120
     → (codedLen c ≡ 4) × (length (bytesOf (codedValue c)) ≡ 1)
 code-x k s i c e z x =
     subst Four (code-piece k (drop i s) c e z .1) (backslash-x k (drop i s) (getD-drop i s 1 0 ∙ x))
@@ -107,8 +107,8 @@ code-x k s i c e z x =
 escape-short : (k : Allowed) (s : List ℕ) → length (front s) < 2 → (getD s 1 0 ≡ 10 → ⊥) → 0 ≡ nextCode (backslashOf k s)
 escape-short k s l e = ap (λ (x : Escaped). nextCode (ofEscape x)) (too-short k (front s) l) ∙ ap nextCode (steps.is-escape k s e)
 
-code-short : (k : Allowed) (s : List ℕ) → length s < 2 → 0 ≡ codeOf k s
-unfolding codeOf
+code-short : (k : Allowed) (s : List ℕ) → length s < 2 → 0 ≡ backslashCode k s
+unfolding backslashCode
 code-short k [] h = refl
 code-short k (b ∷ []) h =
     cond-in (λ (c : ℕ). 0 ≡ c) (eqb b 92)
@@ -116,29 +116,29 @@ code-short k (b ∷ []) h =
 code-short k (a ∷ b ∷ s) h = absurd (omega arith)
 
 module _ (k : Allowed) (s : List ℕ) (i : ℕ) where
-  pub at-short : length s - i < 2 → 0 ≡ codeOf k (drop i s)
+  pub at-short : length s - i < 2 → 0 ≡ backslashCode k (drop i s)
   at-short h = code-short k (drop i s) (omega (arith, length-drop i s))
 
   module _ (l : i < length s) where
-    pub at-other : (getD s i 0 ≡ 92 → ⊥) → 0 ≡ codeOf k (drop i s)
-    unfolding codeOf
+    pub at-other : (getD s i 0 ≡ 92 → ⊥) → 0 ≡ backslashCode k (drop i s)
+    unfolding backslashCode
     at-other e = rw (drop-cons s i 0 l, ne-eqb _ _ e)
 
     module _ (e : getD s i 0 ≡ 92) where
-      pub at-backslash : nextCode (backslashOf k (drop i s)) ≡ codeOf k (drop i s)
-      unfolding codeOf
+      pub at-backslash : nextCode (backslashOf k (drop i s)) ≡ backslashCode k (drop i s)
+      unfolding backslashCode
       at-backslash = rw (drop-cons s i 0 l, eq-eqb _ _ e)
 
       -- a dropped line break, and n blanks behind it
       module _ (f : getD s (i + 1) 0 ≡ 10) (n : ℕ) (is : n ≡ run blank (drop (i + 2) s)) where
-        at-break : nextCode (lineBreakOf (drop (i + 2) s)) ≡ codeOf k (drop i s)
+        at-break : nextCode (lineBreakOf (drop (i + 2) s)) ≡ backslashCode k (drop i s)
         at-break = rw drop-drop at (ap nextCode (steps.is-break k (drop i s) (getD-drop i s 1 0 ∙ f))) ∙ at-backslash
 
-        pub at-open : i + 2 + n ≡ length s → 0 ≡ codeOf k (drop i s)
+        pub at-open : i + 2 + n ≡ length s → 0 ≡ backslashCode k (drop i s)
         at-open g =
             ap nextCode (steps.break-open (drop (i + 2) s) n is (omega (arith, length-drop (i + 2) s))) ∙ at-break
 
-        pub at-blanks : (i + 2 + n ≡ length s → ⊥) → (n + 2) * 4294967296 ≡ codeOf k (drop i s)
+        pub at-blanks : (i + 2 + n ≡ length s → ⊥) → (n + 2) * 4294967296 ≡ backslashCode k (drop i s)
         unfolding pieceCode
         at-blanks g =
             let h = byte-inside s (i + 1) 10 f (omega arith) in
@@ -155,11 +155,11 @@ module _ (k : Allowed) (s : List ℕ) (i : ℕ) where
         pub other : getD (drop i s) 1 0 ≡ 10 → ⊥
         other x = f (sym (getD-drop i s 1 0) ∙ x)
 
-        pub at-cut : end ≤ i + 1 → 0 ≡ codeOf k (drop i s)
+        pub at-cut : end ≤ i + 1 → 0 ≡ backslashCode k (drop i s)
         at-cut h =
             escape-short k (drop i s) (rw seen (omega (arith, length-take (end - i) (drop i s)))) other ∙ at-backslash
 
-        pub at-escape : (c : ℕ) → c ≡ escapeCode (escapeOf k (take (end - i) (drop i s))) → c ≡ codeOf k (drop i s)
+        pub at-escape : (c : ℕ) → c ≡ escapeCode (escapeOf k (take (end - i) (drop i s))) → c ≡ backslashCode k (drop i s)
         at-escape c h =
             h ∙ ap (λ (t : List ℕ). escapeCode (escapeOf k t)) (sym seen)
             ∙ of-escape (escapeOf k (front (drop i s)))

@@ -26,7 +26,7 @@ use Rattle.escape_code.proofs.Codes.{code-some}
 use Rattle.escape_code.proofs.At.{letter-escape, x-escape, u-escape, nul-escape, none-escape}
 use Rattle.plain_run.specs.Plain.{plainByte}
 use Rattle.body.specs.Step.{Next, piece, stop, ofEscape, backslashOf, stepOf}
-use Rattle.body.specs.Code.{nextCode, codeOf, Stopped}
+use Rattle.body.specs.Code.{nextCode, backslashCode, Stopped}
 use Rattle.body.specs.Stride.{nextAt, valueIn, breakEnd}
 use Rattle.body.proofs.Steps as steps
 use Rattle.body.proofs.Within.{NextIn, step-in}
@@ -87,7 +87,7 @@ module _ (k : Allowed) (s : List ℕ) (i : ℕ) (e : getD s i 0 ≡ 92) where
       by-test false o p q h = absurd (z h)
 
   -- any piece, by its code
-  pub code-arm : (c : ℕ) → c ≡ codeOf k (drop i s) → (c ≡ 0 → ⊥) → Coded k s i c (i + codedLen c)
+  pub code-arm : (c : ℕ) → c ≡ backslashCode k (drop i s) → (c ≡ 0 → ⊥) → Coded k s i c (i + codedLen c)
   code-arm c is z =
       let told : NextIn 1 (length (drop i s)) (piece (codedLen c) (codedValue c)) = rw (codes.code-step k (drop i s) c is z) at (step-in k (drop i s)) in
       record {
@@ -97,7 +97,7 @@ module _ (k : Allowed) (s : List ℕ) (i : ℕ) (e : getD s i 0 ≡ 92) where
       }
 
   -- none
-  pub none-arm : codeOf k (drop i s) ≡ 0 → Arm k s i 0 []
+  pub none-arm : backslashCode k (drop i s) ≡ 0 → Arm k s i 0 []
   none-arm z =
       let r = go (backslashOf k (drop i s)) (codes.backslash-coded k (drop i s)) (codes.at-backslash k s i at-in e ∙ z) in
       record { next = r .0; value = r .1 }
@@ -150,12 +150,12 @@ module _ (k : Allowed) (s : List ℕ) (i : ℕ) (e : getD s i 0 ≡ 92) where
 
     -- where nothing is dropped, what is no escape ends the body
     module _ (b : breakEnd s i ≡ 0) where
-      no-escape : ((getD s (i + 1) 0 ≡ 10 → ⊥) → 0 ≡ codeOf k (drop i s)) → Arm k s i 0 []
+      no-escape : ((getD s (i + 1) 0 ≡ 10 → ⊥) → 0 ≡ backslashCode k (drop i s)) → Arm k s i 0 []
       unfolding breakEnd
       no-escape f = none-arm (sym (by-test (eqb (getD s (i + 1) 0) 10) (eqb (i + 2 + run blank (drop (i + 2) s)) (length s)) refl refl b))
         where
           by-test : (t o : Bool) → eqb (getD s (i + 1) 0) 10 ≡ t → eqb (i + 2 + run blank (drop (i + 2) s)) (length s) ≡ o
-              → cond t (cond o 0 (i + 2 + run blank (drop (i + 2) s))) 0 ≡ 0 → 0 ≡ codeOf k (drop i s)
+              → cond t (cond o 0 (i + 2 + run blank (drop (i + 2) s))) 0 ≡ 0 → 0 ≡ backslashCode k (drop i s)
           by-test true true p q h = codes.at-open k s i at-in e (eqb-true _ _ p) _ refl (eqb-true _ _ q)
           by-test true false p q h = absurd (omega arith)
           by-test false o p q h = f (eqb-false _ _ p)

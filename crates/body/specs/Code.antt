@@ -15,9 +15,9 @@ nextCode (piece n u) = pieceCode n u
 nextCode (stop e) = 0
 
 -- what a backslash at the front starts; 0 where it ends the body, or where no backslash stands
-unfoldable pub codeOf : Allowed → List ℕ → ℕ
-codeOf k [] = 0
-codeOf k (b ∷ s) = cond (eqb b 92) (nextCode (backslashOf k (b ∷ s))) 0
+unfoldable pub backslashCode : Allowed → List ℕ → ℕ
+backslashCode k [] = 0
+backslashCode k (b ∷ s) = cond (eqb b 92) (nextCode (backslashOf k (b ∷ s))) 0
 
 -- the step ends the body
 abbrev pub Stopped : Next → Type 0

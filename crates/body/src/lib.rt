@@ -15,7 +15,7 @@ ghost use Rattle.err.specs.Reading.{hashesOf};
 ghost use Rattle.utf8.specs.Cut.{lastLen};
 ghost use Rattle.scan.specs.Run.{run};
 ghost use Rattle.plain_run.specs.Plain.{plainByte};
-ghost use Rattle.body.specs.Code.{codeOf, Stopped};
+ghost use Rattle.body.specs.Code.{backslashCode, Stopped};
 ghost use Rattle.body.specs.Step.{stop, endOf, nextOf, lineBreakOf, backslashOf, plainOf, stepOf};
 ghost use Rattle.body.specs.Stride.{breakEnd, nextAt, valueIn};
 ghost use Rattle.body.specs.Body.{body, Measures, Fitting};
@@ -59,7 +59,7 @@ fn refuse(kind: ParseErrorKind) -> Step
     Step::Stop(Ending::Bad(kind, Span::Between(0, 1)))
 }
 
-// A byte other than a backslash.
+// A byte where no escape starts: any but a backslash, and in a raw body that too.
 pub fn plain(b: u8, k: Allowed) -> Step
     ensures { λ r. ⌜ nextOf r ≡ plainOf k b ⌝ }
 {
@@ -112,7 +112,7 @@ fn backslash(s: &[u8], last: usize, k: Allowed) -> Step
 // before `end`.
 pub fn code_at(s: &[u8], at: usize, end: usize, k: Allowed) -> u64
     requires { ⌜ (at ≤ length (now s)) × ((length (now s) < 4294967296) × (end ≡ length (now s) - lastLen (now s))) ⌝ }
-    ensures { λ r. ⌜ r ≡ codeOf k (drop at (now (s .entry))) ⌝ }
+    ensures { λ r. ⌜ r ≡ backslashCode k (drop at (now (s .entry))) ⌝ }
 {
     if s.len() - at < 2 {
         return 0;
@@ -249,7 +249,7 @@ fn ending_at(s: &[u8], at: usize, last: usize, k: Allowed) -> Ending
     why
 }
 
-// A quoted body behind its first bytes, which stand for themselves, up to an offset.
+// A quoted body whose first bytes, up to an offset, are known to stand for themselves: what follows is gone through piece by piece.
 fn measure_on(s: &[u8], from: usize, k: Allowed) -> Measured
     requires { ⌜ (from ≡ run (plainByte k) (now s)) × (length (now s) < 4294967296) ⌝ }
     ensures { λ r. ⌜ Measures (body k (now (s .entry))) r ⌝ }

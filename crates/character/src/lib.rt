@@ -46,7 +46,7 @@ fn closed(text: &[u8], at: usize, value: u32, q: Quote) -> Single
     if scan::byte_at(text, at) == b'\'' {
         return suffixed(text, at + 1, value, q);
     }
-    // one character too many needs no search
+    // one byte too many needs no search
     if scan::byte_at(text, at + 1) == b'\'' {
         return Single::Refused(q.overlong(), Span::Nowhere);
     }

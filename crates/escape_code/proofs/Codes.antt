@@ -11,7 +11,7 @@ use Rattle.utf8.proofs.Laws.{scalar-lt}
 use Rattle.escape.specs.declared.Allowed.{Allowed}
 use Rattle.escape.specs.declared.Unescaped.{Unescaped}
 use Rattle.escape.specs.declared.Unescaped.the-variants.{Nothing, Byte, Unicode}
-use Rattle.escape_code.specs.Code.{valueCode, pieceCode, codedLen, valueBy, codedValue}
+use Rattle.escape_code.specs.Code.{unescapedCode, pieceCode, codedLen, valueBy, codedValue}
 use Rattle.escape.specs.Escape.{Escaped, value, bad, escapeOf}
 use Rattle.escape.proofs.Within.{EscapeIn, escape-in}
 use Rattle.escape.proofs.Values.{Unwraps, EscapeUnwraps, escape-unwraps}
@@ -24,12 +24,12 @@ Coded Nothing = Unit {0}
 Coded (Byte b) = b < 256
 Coded (Unicode c) = Scalar c
 
-small : (u : Unescaped) → Coded u → valueCode u < 4294967296
+small : (u : Unescaped) → Coded u → unescapedCode u < 4294967296
 small Nothing h = omega arith
 small (Byte b) h = omega arith
 small (Unicode c) h = omega (arith, scalar-lt c h)
 
-value-back : (u : Unescaped) → Coded u → valueBy (valueCode u) ≡ u
+value-back : (u : Unescaped) → Coded u → valueBy (unescapedCode u) ≡ u
 unfolding valueBy
 value-back Nothing h = refl
 value-back (Byte b) h = rw (ne-eqb (1 + b) 0 (λ e. omega arith), lt-ltb (1 + b) 257 (omega arith)) (ap Byte (omega arith))
@@ -44,7 +44,7 @@ module _ (n : ℕ) (u : Unescaped) where
   pub code-value : Coded u → codedValue (pieceCode n u) ≡ u
   unfolding pieceCode codedValue
   code-value h =
-      let low : (n * 4294967296 + valueCode u) % 4294967296 ≡ valueCode u = omega (arith, small u h) in
+      let low : (n * 4294967296 + unescapedCode u) % 4294967296 ≡ unescapedCode u = omega (arith, small u h) in
       ap valueBy low ∙ value-back u h
 
   pub code-some : 0 < n → pieceCode n u ≡ 0 → ⊥

@@ -9,14 +9,14 @@ use Rattle.escape.specs.declared.Unescaped.{Unescaped}
 use Rattle.escape.specs.declared.Unescaped.the-variants.{Nothing, Byte, Unicode}
 
 -- what a piece stands for: 0 for nothing, then the bytes, then the characters
-abbrev pub valueCode : Unescaped → ℕ
-valueCode Nothing = 0
-valueCode (Byte b) = 1 + b
-valueCode (Unicode c) = 257 + c
+abbrev pub unescapedCode : Unescaped → ℕ
+unescapedCode Nothing = 0
+unescapedCode (Byte b) = 1 + b
+unescapedCode (Unicode c) = 257 + c
 
 -- a piece of n bytes: n times 2^32, and what it stands for
 unfoldable pub pieceCode : ℕ → Unescaped → ℕ
-pieceCode n u = n * 4294967296 + valueCode u
+pieceCode n u = n * 4294967296 + unescapedCode u
 
 -- an escape; 0 where it is refused
 abbrev pub escapeCode : Escaped → ℕ

@@ -10,7 +10,7 @@ ghost use Rattle.buffer.specs.Buffer.{Wrote};
 ghost use Rattle.form.specs.Reduced.{reduce};
 ghost use Rattle.form.specs.Form.{reducedForm};
 ghost use Rattle.scaling.specs.Digits.{digitsOf};
-ghost use Rattle.scaling.specs.Scaled.{numberOf, FloatOf, near};
+ghost use Rattle.scaling.specs.Scaled.{decimalOf, FloatOf, near};
 ghost use Rattle.float_form.specs.Floats.{powerForm, scaledForm, known, too-far, lengthOf};
 
 // How long a form is.
@@ -103,7 +103,7 @@ fn put_scaled(out: &mut [u8], mantissa: &[u8], r: Scaled) -> usize
 // How long the form of a float is without its suffix, or that its power is too far.
 pub fn float_len(text: &[u8], lit: FloatLit) -> FormLen
     requires { ⌜ FloatOf (now text) lit ⌝ }
-    ensures { λ r. ⌜ lengthOf r ≡ cond (near (numberOf (now (text .entry)) lit)) (known (length (reducedForm (reduce (numberOf (now (text .entry)) lit))))) too-far ⌝ }
+    ensures { λ r. ⌜ lengthOf r ≡ cond (near (decimalOf (now (text .entry)) lit)) (known (length (reducedForm (reduce (decimalOf (now (text .entry)) lit))))) too-far ⌝ }
 {
     let scaling = scaling::scale(text, lit);
     let end = lit.end_fractional_part;
@@ -116,8 +116,8 @@ pub fn float_len(text: &[u8], lit: FloatLit) -> FormLen
 
 // The form of a float without its suffix, where its power is near; so `TooFar` cannot arise.
 pub fn put_float(out: &mut [u8], text: &[u8], lit: FloatLit) -> usize
-    requires { ⌜ FloatOf (now text) lit × ((near (numberOf (now text) lit) ≡ true) × (length (reducedForm (reduce (numberOf (now text) lit))) ≤ length (now out))) ⌝ }
-    ensures { λ n. ⌜ Wrote (reducedForm (reduce (numberOf (now (text .entry)) lit))) n (now (out .entry)) (now (out .exit)) ⌝ }
+    requires { ⌜ FloatOf (now text) lit × ((near (decimalOf (now text) lit) ≡ true) × (length (reducedForm (reduce (decimalOf (now text) lit))) ≤ length (now out))) ⌝ }
+    ensures { λ n. ⌜ Wrote (reducedForm (reduce (decimalOf (now (text .entry)) lit))) n (now (out .entry)) (now (out .exit)) ⌝ }
 {
     let scaling = scaling::scale(text, lit);
     let end = lit.end_fractional_part;

@@ -17,7 +17,7 @@ use Rattle.parse.specs.Class.{classOf}
 use Rattle.parse.specs.Sets.{decDigit}
 use Rattle.parse.proofs.Classes.{class-decimal, dec-digit-ends}
 use Rattle.integer_value.specs.declared.Within.the-variants.{Number, Over}
-use Rattle.integer_value.specs.Value.{numberFrom, number, within}
+use Rattle.integer_value.specs.Value.{numberFrom, number, numberWithin}
 
 -- ---- byte by byte
 
@@ -44,10 +44,10 @@ pub number-above : (base n largest : ℕ) (s : List ℕ) (i : ℕ) → 0 < base 
 number-above base n largest s i p h e l =
     omega (arith, number-more base n s i h e, number-grows base (n * base + classOf (getD s i 0)) (drop (i + 1) s) p)
 
-pub within-given : (largest n m : ℕ) → n ≡ m → n ≤ largest → Number n ≡ within largest m
+pub within-given : (largest n m : ℕ) → n ≡ m → n ≤ largest → Number n ≡ numberWithin largest m
 within-given largest n m e h = rw (← e, le-leb n largest h)
 
-pub within-over : (largest m : ℕ) → largest < m → Over ≡ within largest m
+pub within-over : (largest m : ℕ) → largest < m → Over ≡ numberWithin largest m
 within-over largest m h = rw (lt-leb m largest h)
 
 -- ---- with one digit more: far below the largest, above it, and near

@@ -14,14 +14,14 @@ use Rattle.integer.specs.Parts.{IntegerParts}
 use Rattle.integer.proofs.Parts.{sound, complete, main-part}
 use Rattle.integer_value.specs.declared.Within.{Within}
 use Rattle.integer_value.specs.declared.Within.the-variants.{Number, Over}
-use Rattle.integer_value.specs.Value.{number, within, Valued, given, withheld, bounded, integerValue}
+use Rattle.integer_value.specs.Value.{number, numberWithin, Valued, given, withheld, bounded, integerValue}
 
 -- a number that is given or above the largest, as a value
 abbrev pub valuedIn : Within → Valued
 valuedIn (Number n) = given n
 valuedIn Over = withheld 45 none
 
-pub bounded-is : (largest n : ℕ) → valuedIn (within largest n) ≡ bounded largest n
+pub bounded-is : (largest n : ℕ) → valuedIn (numberWithin largest n) ≡ bounded largest n
 bounded-is largest n = by-test (leb n largest)
   where
     by-test : (t : Bool) → valuedIn (cond t (Number n) Over) ≡ cond t (given n) (withheld 45 none)

@@ -24,8 +24,8 @@ unfoldable pub number : ℕ → List ℕ → ℕ
 number base s = numberFrom base 0 s
 
 -- "given exactly when at most the type's largest"
-abbrev pub within : ℕ → ℕ → Within
-within largest n = cond (leb n largest) (Number n) Over
+abbrev pub numberWithin : ℕ → ℕ → Within
+numberWithin largest n = cond (leb n largest) (Number n) Over
 
 -- a value, or a refusal's number and span
 pub data Valued : Type 0 where

@@ -9,7 +9,7 @@ ghost use lib.Dec.{leb};
 ghost use lib.ListN.{length};
 ghost use lib.Seq.{slice};
 ghost use Rattle.err.specs.Reading.{baseOf};
-ghost use Rattle.integer_value.specs.Value.{number, within, bounded, valuedOf};
+ghost use Rattle.integer_value.specs.Value.{number, numberWithin, bounded, valuedOf};
 
 // The number that digits write, or that it is above a largest one.
 pub enum Within {
@@ -40,7 +40,7 @@ fn is_within(n: u64, d: u64, by: u64, largest: u64, most: u64, near: u64) -> boo
 
 // The digits' number, in one pass: it is left at the digit that passes the largest.
 pub fn number_within(digits: &[u8], base: IntegerBase, largest: u64) -> Within
-    ensures { λ r. ⌜ r ≡ within largest (number (baseOf base) (now (digits .entry))) ⌝ }
+    ensures { λ r. ⌜ r ≡ numberWithin largest (number (baseOf base) (now (digits .entry))) ⌝ }
 {
     let by = wide(base.value());
     let most = largest / by;

@@ -15,7 +15,7 @@ use Rattle.float.specs.Float.{floatRead}
 use Rattle.character.specs.Single.{readBy}
 use Rattle.string.specs.String.{stringRead}
 use Rattle.entries.specs.Entries.{startsFloat, numberEntry, byteEntry, entryBy, entryFor, chosenEntry}
-use Rattle.literal.specs.Readings.{numberRead, byteOrStringRead, anyBy, anyRead, entryRead, quoteIn, kindIn}
+use Rattle.literal.specs.Readings.{numberRead, byteOrStringRead, anyBy, anyRead, entryRead, quoteIn, stringKindIn}
 use Rattle.literal.proofs.Entries.{by-code}
 
 -- what the code calls for an entry from 1 to 9
@@ -26,7 +26,7 @@ byEntry e s =
     (cond (eqb e 3) (floatRead s)
     (cond (eqb e 4 || eqb e 6) (readBy (quoteIn e) s)
     (cond (eqb e 9) (refused 3 none)
-    (stringRead (kindIn e) s)))))
+    (stringRead (stringKindIn e) s)))))
 
 -- two choices by one test
 both : {A B : Type 0} (R : A → B → Type 0) (t : Bool) {x y : A} {u v : B} → R x u → R y v → R (cond t x y) (cond t u v)
@@ -42,11 +42,11 @@ module _ (s : List ℕ) where
   number-chosen = both Is (startsFloat s) refl refl
 
   b-chosen : Is (byteOrStringRead s) (byteEntry s)
-  unfolding byteOrStringRead byteEntry byEntry quoteIn kindIn
+  unfolding byteOrStringRead byteEntry byEntry quoteIn stringKindIn
   b-chosen = both Is (eqb (getD s 1 0) 39) refl (both Is (eqb (getD s 1 0) 114 || eqb (getD s 1 0) 34) refl refl)
 
   by-chosen : (b : ℕ) → Is (anyBy b s) (entryBy b s)
-  unfolding anyBy entryBy byEntry quoteIn kindIn
+  unfolding anyBy entryBy byEntry quoteIn stringKindIn
   by-chosen b =
       both Is (decDigit b) number-chosen
       (both Is (eqb b 102 || eqb b 116) refl
@@ -62,7 +62,7 @@ any-chosen (b ∷ s) = by-chosen (b ∷ s) b
 
 -- THE LAW: of each entry code
 pub chosen-read : (code : ℕ) (s : List ℕ) → code ≤ 8 → entryRead code s ≡ byEntry (chosenEntry code s) s
-unfolding entryRead chosenEntry byEntry quoteIn kindIn
+unfolding entryRead chosenEntry byEntry quoteIn stringKindIn
 chosen-read zero s l = any-chosen s
 chosen-read (suc code) s l =
     by-code (λ c. entryRead c s ≡ byEntry (chosenEntry c s) s) refl refl refl refl refl refl refl refl (suc code) (omega arith) l

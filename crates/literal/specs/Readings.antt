@@ -69,7 +69,7 @@ readAt code s =
     (cond (eqb (textFault s) 0) (entryRead code s) (refused (textFault s) none))
     (refused 42 none)
 
--- ---- for contracts between functions, no sentence of a document; law `chosen-read` joins `quoteIn`, `kindIn` and the entry chosen (entries) to the
+-- ---- for contracts between functions, no sentence of a document; law `chosen-read` joins `quoteIn`, `stringKindIn` and the entry chosen (entries) to the
 -- above
 
 -- a bool by entry 0 or 1: nothing is wrong with such a text, so that it need not be checked (law `bool-read`)
@@ -85,5 +85,5 @@ unfoldable pub quoteIn : ℕ → Quote
 quoteIn e = cond (eqb e 4) Char Byte
 
 -- string, byte string or C string, by entry 5, 7 or 8
-unfoldable pub kindIn : ℕ → Kind
-kindIn e = cond (eqb e 5) Text (cond (eqb e 7) Bytes C)
+unfoldable pub stringKindIn : ℕ → Kind
+stringKindIn e = cond (eqb e 5) Text (cond (eqb e 7) Bytes C)

@@ -19,7 +19,7 @@ ghost use lib.ListN.{length};
 ghost use Rattle.integer_value.specs.Value.{valuedOf};
 ghost use Rattle.err.specs.Reading.{outcomeOf};
 ghost use Rattle.string.specs.Decode.{decodedOf};
-ghost use Rattle.literal.specs.Readings.{quoteIn, kindIn, entryRead, boolAt, charAt, readAt};
+ghost use Rattle.literal.specs.Readings.{quoteIn, stringKindIn, entryRead, boolAt, charAt, readAt};
 ghost use Rattle.literal.specs.Decodes.{kindCoded, decodeAt, bufferAt};
 ghost use Rattle.literal.specs.Values.{valueAt};
 ghost use Rattle.literal.specs.Suffixes.{integerFromSuffix, floatFromSuffix};
@@ -55,7 +55,7 @@ fn quote_of(entry: u64) -> Quote
 }
 
 fn kind_of(entry: u64) -> Kind
-    ensures { λ r. ⌜ r ≡ kindIn entry ⌝ }
+    ensures { λ r. ⌜ r ≡ stringKindIn entry ⌝ }
 {
     match entry {
         5 => Kind::Text,

@@ -11,7 +11,7 @@ use escape::Unescaped;
 use scan::ByteSet;
 ghost use mathlib.Core.Path.{_≡_};
 ghost use mathlib.Core.Bool.{cond};
-ghost use Prim.Native.Nat.{_+_, _-_, _≤_, _<_, min};
+ghost use Prim.Native.Nat.{_+_, _≤_, _<_};
 ghost use lib.Dec.{leb};
 ghost use lib.ListN.{length, getD, drop};
 ghost use Rattle.scan.specs.Run.{run};
@@ -172,35 +172,6 @@ fn raw_end(s: &[u8], from: usize, h: usize, mark: u8, k: Allowed) -> usize
     scan_from(s, i, h, mark, k)
 }
 
-// The body of a raw string with h hashes, which are counted at the quotes alone that have the mark behind them. It stands for its own
-// bytes, so that its length is where it ends.
-fn measure_on(s: &[u8], h: usize, k: Allowed) -> Measured
-    requires { ⌜ h ≤ 255 ⌝ }
-    ensures { λ r. ⌜ Measures (rawBody k h (now (s .entry))) r ⌝ }
-{
-    let mark = closing_mark(h);
-    let mut i = 0;
-    loop {
-        let e = raw_end(s, i, h, mark, k);
-        if scan::byte_at(s, e) != b'"' {
-            return Measured {
-                at: e,
-                len: e,
-                end: raw_ending_at(s, e, h, k),
-            };
-        }
-        let next = e + 1;
-        if has_hashes(s, next, h) {
-            return Measured {
-                at: e,
-                len: e,
-                end: Ending::Close,
-            };
-        }
-        i = next;
-    }
-}
-
 // Whether a byte may stand before the first quote of a raw body.
 fn is_before_quote(b: u8, k: Allowed) -> bool
     ensures { λ r. ⌜ r ≡ beforeQuote k b ⌝ }
@@ -278,13 +249,42 @@ fn quote_end(s: &[u8], k: Allowed) -> usize
     run_before_quote(s, at, k)
 }
 
-// The body of a raw string with h hashes, as `measure_on` has it. A short one without hashes ends at its first quote.
+// The body of a raw string with h hashes, which are counted at the quotes alone that have the mark behind them. It stands for its own
+// bytes, so that its length is where it ends.
+fn scan_body(s: &[u8], h: usize, k: Allowed) -> Measured
+    requires { ⌜ h ≤ 255 ⌝ }
+    ensures { λ r. ⌜ Measures (rawBody k h (now (s .entry))) r ⌝ }
+{
+    let mark = closing_mark(h);
+    let mut i = 0;
+    loop {
+        let e = raw_end(s, i, h, mark, k);
+        if scan::byte_at(s, e) != b'"' {
+            return Measured {
+                at: e,
+                len: e,
+                end: raw_ending_at(s, e, h, k),
+            };
+        }
+        let next = e + 1;
+        if has_hashes(s, next, h) {
+            return Measured {
+                at: e,
+                len: e,
+                end: Ending::Close,
+            };
+        }
+        i = next;
+    }
+}
+
+// The same. A short body without hashes is scanned for its first quote by eight bytes at once.
 fn measure_raw(s: &[u8], h: usize, k: Allowed) -> Measured
     requires { ⌜ h ≤ 255 ⌝ }
     ensures { λ r. ⌜ Measures (rawBody k h (now (s .entry))) r ⌝ }
 {
-    if h == 0 {
-        if s.len() < 66 {
+    if s.len() < 66 {
+        if h == 0 {
             let e = quote_end(s, k);
             if scan::byte_at(s, e) == b'"' {
                 return Measured {
@@ -295,7 +295,7 @@ fn measure_raw(s: &[u8], h: usize, k: Allowed) -> Measured
             }
         }
     }
-    measure_on(s, h, k)
+    scan_body(s, h, k)
 }
 
 // A text whose hashes start at an offset, behind the `r`.

@@ -9,7 +9,7 @@ use lib.Dec.{leb}
 use borrow.Author.Tests.{leb-true, leb-false}
 use Rattle.scan.proofs.Cases.{cond-in}
 use Rattle.integer_value.specs.declared.Within.the-variants.{Number, Over}
-use Rattle.integer_value.specs.Value.{within}
+use Rattle.integer_value.specs.Value.{numberWithin}
 use Rattle.scaling.specs.Scaled.{capped}
 
 -- it is the size, or both are too large
@@ -22,7 +22,7 @@ unfolding capped
 capped-most n k q = rw q (cond-in (λ (k : ℕ). k ≤ 2000001) (leb n 2000000) (λ e. omega (arith, leb-true n 2000000 e)) (λ e. omega arith))
 
 -- what the code's reading within 2,000,000 says of it
-pub capped-given : (n k : ℕ) → within 2000000 n ≡ Number k → k ≡ capped n
+pub capped-given : (n k : ℕ) → numberWithin 2000000 n ≡ Number k → k ≡ capped n
 unfolding capped
 capped-given n k = by-test (leb n 2000000)
   where
@@ -30,7 +30,7 @@ capped-given n k = by-test (leb n 2000000)
     by-test true e = cc
     by-test false e = absurd (let z : _≡_ {A = ℕ} 0 1 = cc in omega arith)
 
-pub capped-over : (n : ℕ) → within 2000000 n ≡ Over → 2000001 ≡ capped n
+pub capped-over : (n : ℕ) → numberWithin 2000000 n ≡ Over → 2000001 ≡ capped n
 unfolding capped
 capped-over n = by-test (leb n 2000000)
   where

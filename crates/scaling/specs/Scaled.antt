@@ -27,8 +27,9 @@ part a e s = take (e - a) (drop a s)
 unfoldable pub floatAt : List ℕ → ℕ → ℕ → ℕ → Decimal
 floatAt s i f e = powered (part 0 i s) (part (i + 1) f s) (part (f + 1) e s)
 
-abbrev pub numberOf : List ℕ → FloatLit → Decimal
-numberOf s l = floatAt s (l .«end_integer_part») (l .«end_fractional_part») (l .«end_number_part»)
+-- the number of a float that was read with its three ends
+abbrev pub decimalOf : List ℕ → FloatLit → Decimal
+decimalOf s l = floatAt s (l .«end_integer_part») (l .«end_fractional_part») (l .«end_number_part»)
 
 -- a text within its limit that litrs reads as a float with these ends
 abbrev pub FloatOf : List ℕ → FloatLit → Type 0

@@ -12,7 +12,7 @@ ghost use Rattle.grammar.specs.Numbers.{SIGN};
 ghost use Rattle.parse.specs.Sets.{decDigit};
 ghost use Rattle.integer_value.specs.Value.{number};
 ghost use Rattle.scaling.specs.Digits.{significant, insignificant, digitsOf, lastEnd};
-ghost use Rattle.scaling.specs.Scaled.{numberOf, FloatOf, capped, Scales, scalingBy, exponentStart};
+ghost use Rattle.scaling.specs.Scaled.{decimalOf, FloatOf, capped, Scales, scalingBy, exponentStart};
 
 // Where the digits of the reduced number stand in the mantissa, and its power of ten.
 pub struct Scaled {
@@ -167,7 +167,7 @@ fn to_power(first: usize, last: usize, up: u64, down: u64) -> Scaling
 // The reduced number of a float that was read from the text.
 pub fn scale(text: &[u8], lit: FloatLit) -> Scaling
     requires { ⌜ FloatOf (now text) lit ⌝ }
-    ensures { λ r. ⌜ Scales (take (lit .«end_fractional_part») (now (text .entry))) (numberOf (now (text .entry)) lit) r ⌝ }
+    ensures { λ r. ⌜ Scales (take (lit .«end_fractional_part») (now (text .entry))) (decimalOf (now (text .entry)) lit) r ⌝ }
 {
     let whole = lit.end_integer_part;
     let end = lit.end_fractional_part;

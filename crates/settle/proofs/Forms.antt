@@ -17,7 +17,7 @@ use Rattle.buffer.specs.Buffer.{over}
 use Rattle.grammar.specs.Meaning.{Worth}
 use Rattle.grammar.specs.Meaning as worth
 use Rattle.form.specs.Form.{bareForm, formOf, faultOf, integerForm}
-use Rattle.integer_value.specs.Value.{within, number}
+use Rattle.integer_value.specs.Value.{numberWithin, number}
 use Rattle.integer_value.specs.declared.Within.the-variants.{Number, Over}
 use Rattle.scaling.specs.Scaled.{part}
 use Rattle.numbers.specs.Numbers.{kindIn, suffixIn}
@@ -167,7 +167,7 @@ surely-ready s have found is e =
 -- ---- integers, which may have none
 
 -- the number that is at most the largest
-same-number : (m : ℕ) {n : ℕ} → Number n ≡ within 18446744073709551615 m → n ≡ m
+same-number : (m : ℕ) {n : ℕ} → Number n ≡ numberWithin 18446744073709551615 m → n ≡ m
 same-number m {n} = by-test (leb m 18446744073709551615)
   where
     by-test : (t : Bool) → Number n ≡ cond t (Number m) Over → n ≡ m
@@ -179,10 +179,10 @@ module _ (s : List ℕ) (lit : IntegerLit) where
   abbrev pub numberIn : ℕ
   numberIn = number (baseOf (lit .base)) (part (lit .«start_main_part») (lit .«end_main_part») s)
 
-  pub integer-over : Over ≡ within 18446744073709551615 numberIn → withheld 45 none ≡ measureOf s (outcomeOf (reading.Integer lit))
+  pub integer-over : Over ≡ numberWithin 18446744073709551615 numberIn → withheld 45 none ≡ measureOf s (outcomeOf (reading.Integer lit))
   integer-over w = sym (measure-refused s (outcomeOf (reading.Integer lit)) (sym (is-over _ (drop (lit .«end_main_part») s) w)))
 
-  module _ {n : ℕ} (w : Number n ≡ within 18446744073709551615 numberIn) where
+  module _ {n : ℕ} (w : Number n ≡ numberWithin 18446744073709551615 numberIn) where
     integer-bare : bareBy s (outcomeOf (reading.Integer lit)) ≡ len (length (integerForm n (drop (lit .«end_main_part») s)))
     integer-bare = sym (is-within _ (drop (lit .«end_main_part») s) w)
 

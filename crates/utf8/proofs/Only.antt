@@ -8,7 +8,7 @@ use native.Mathlib.Omega.{arith}
 use lib.Dec.{eqb}
 use lib.ListN.{length, getD, drop, drop-of-length-le}
 use borrow.Author.Tests.{eq-eqb, ne-eqb, lt-ltb, eqb-true}
-use Rattle.scan.proofs.Cases.{cond-lt, cond-eq}
+use Rattle.scan.proofs.Cases.{by-lt, cond-lt, cond-eq}
 use Rattle.utf8.specs.Utf8.{Scalar, encode}
 use Rattle.utf8.proofs.Laws.{Found, decode-found}
 use Rattle.utf8.proofs.At.{decode-one, decode-two, decode-three, decode-four}
@@ -81,31 +81,24 @@ pub ascii-length : (b : ℕ) → b < 0x80 → 1 ≡ lengthFrom b
 unfolding lengthFrom
 ascii-length b h = simp (lt-ltb b 0x80 h)
 
-pub other-length : (b n : ℕ) → n ≡ lengthFrom b → 0x80 ≤ b → n ≡ 1 → ⊥
+-- another byte says 0, 2, 3 or 4
+by-first : (P : ℕ → Type 0) (b : ℕ) → 0x80 ≤ b → P 0 → P 2 → P 3 → P 4 → P (lengthFrom b)
 unfolding lengthFrom
-other-length b n e h f =
-    let P : ℕ → Type 0 = λ m. m ≡ 1 → ⊥ in
-    let k : P (lengthFrom b) =
+by-first P b h none two three four =
     cond-lt P b 0x80 (λ g. absurd (omega arith)) λ g.
-    cond-lt P b 0xC0 (λ g m. absurd (omega arith)) λ g.
-    cond-lt P b 0xE0 (λ g m. absurd (omega arith)) λ g.
-    cond-lt P b 0xF0 (λ g m. absurd (omega arith)) λ g.
-    cond-lt P b 0xF8 (λ g m. absurd (omega arith)) (λ g m. absurd (omega arith))
-    in
-    k (sym e ∙ f)
+    cond-lt P b 0xC0 (λ g. none) λ g.
+    cond-lt P b 0xE0 (λ g. two) λ g.
+    cond-lt P b 0xF0 (λ g. three) λ g.
+    cond-lt P b 0xF8 (λ g. four) (λ g. none)
+
+pub other-length : (b n : ℕ) → n ≡ lengthFrom b → 0x80 ≤ b → n ≡ 1 → ⊥
+other-length b n e h f =
+    by-first (λ m. m ≡ 1 → ⊥) b h (λ m. absurd (omega arith)) (λ m. absurd (omega arith)) (λ m. absurd (omega arith)) (λ m. absurd (omega arith)) (sym e ∙ f)
 
 length-most : (b n : ℕ) → n ≡ lengthFrom b → n ≤ 4
-unfolding lengthFrom
 length-most b n e =
-    let P : ℕ → Type 0 = λ m. m ≤ 4 in
-    let k : P (lengthFrom b) =
-    cond-lt P b 0x80 (λ g. omega arith) λ g.
-    cond-lt P b 0xC0 (λ g. omega arith) λ g.
-    cond-lt P b 0xE0 (λ g. omega arith) λ g.
-    cond-lt P b 0xF0 (λ g. omega arith) λ g.
-    cond-lt P b 0xF8 (λ g. omega arith) (λ g. omega arith)
-    in
-    omega (arith, k, e)
+    by-lt b 0x80 (λ h. omega (arith, e, ascii-length b h))
+    (λ h. omega (arith, e, by-first (λ m. m ≤ 4) b h (omega arith) (omega arith) (omega arith) (omega arith)))
 
 pub only-nothing : (t : List ℕ) → length t ≡ 0 → onlyChar t ≡ Bad
 unfolding onlyChar decode

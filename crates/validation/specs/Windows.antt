@@ -1,4 +1,4 @@
--- The highest byte of a part of a text. For contracts between functions, no sentence of a document.
+-- The highest byte of a part of a text, and what it tells of the front. For contracts between functions, no sentence of a document.
 -- Assumes nothing.
 use mathlib.Core.Bool.{cond}
 use mathlib.Core.List.{List}

@@ -5,14 +5,14 @@ use Rattle.block_validation.proofs.Faults.{fault-is}
 use Rattle.block_validation.proofs.fault.Statement.{statement}
 use Rattle.block_validation.proofs.fault.Tie as tie
 
-over-requires : tie.Need-over-requires
-over-requires c κs = search needs
+excess-requires : tie.Need-excess-requires
+excess-requires c κs = search needs
 
-over-requires-2 : tie.Need-over-requires-2
-over-requires-2 c κs = search needs
+excess-requires-2 : tie.Need-excess-requires-2
+excess-requires-2 c κs = search needs
 
-over-requires-3 : tie.Need-over-requires-3
-over-requires-3 c κs = search needs
+excess-requires-3 : tie.Need-excess-requires-3
+excess-requires-3 c κs = search needs
 
 larger-requires : tie.Need-larger-requires
 larger-requires c κs = search needs
@@ -74,16 +74,16 @@ returns c =
     let c14 = c13 .before in
     let c15 = c14 .before in
     let c16 = c15 .before in
-    simp (c .larger6 .ensures, c1 .larger5 .ensures, c2 .larger4 .ensures, c3 .mask5 .ensures, c4 .four-against .ensures, c5 .mask4 .ensures, c6 .three-against .ensures, c7 .larger3 .ensures, c8 .mask3 .ensures, c9 .mask2 .ensures, c10 .mask .ensures, c11 .is-tail .ensures, c12 .larger2 .ensures, c13 .larger .ensures, c14 .over3 .ensures, c15 .over2 .ensures, c16 .over .ensures)
+    simp (c .larger6 .ensures, c1 .larger5 .ensures, c2 .larger4 .ensures, c3 .mask5 .ensures, c4 .four-against .ensures, c5 .mask4 .ensures, c6 .three-against .ensures, c7 .larger3 .ensures, c8 .mask3 .ensures, c9 .mask2 .ensures, c10 .mask .ensures, c11 .is-tail .ensures, c12 .larger2 .ensures, c13 .larger .ensures, c14 .excess3 .ensures, c15 .excess2 .ensures, c16 .excess .ensures)
     (fault-is _ _ _ (c16 .before .args .x) (search needs))
 
 pub fault-spec : {M : Type 1} → statement M
 fault-spec =
     tie.close
     (tie.spec
-    over-requires
-    over-requires-2
-    over-requires-3
+    excess-requires
+    excess-requires-2
+    excess-requires-3
     larger-requires
     larger-requires-2
     is-tail-requires

@@ -4,7 +4,7 @@ use borrow.Author.Needs.{needs}
 use mathlib.Core.Path.{sym, ap}
 use native.Mathlib.Omega.{arith}
 use lib.ListN.{take}
-use Rattle.scaling.specs.Scaled.{numberOf, ScaledTo}
+use Rattle.scaling.specs.Scaled.{decimalOf, ScaledTo}
 use Rattle.scaling.proofs.Reducing.{inside}
 use Rattle.scaling.proofs.Texts.{mantissa-length, order}
 use Rattle.float_form.specs.Floats.{known}
@@ -14,7 +14,7 @@ use Rattle.float_form.proofs.float_len.Tie as tie
 
 found : (c : tie.After-scaled-len-arg) →
     let a = c .before .before .before .before .before .before .args in
-    ScaledTo (take (a .lit .«end_fractional_part») (a .text .now)) (numberOf (a .text .now) (a .lit)) (c .before .before .scaling .given .0 .0)
+    ScaledTo (take (a .lit .«end_fractional_part») (a .text .now)) (decimalOf (a .text .now) (a .lit)) (c .before .before .scaling .given .0 .0)
 found c = forms.found _ _ _ (c .before .before .before .before .scale .ensures) _ (c .before .before .scaling .given .1)
 
 scale-requires : tie.Need-scale-requires

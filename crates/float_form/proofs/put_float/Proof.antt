@@ -8,7 +8,7 @@ use lib.ListN.{take}
 use Rattle.scan.proofs.Cases.{clash}
 use Rattle.form.specs.Reduced.{reduce}
 use Rattle.form.specs.Form.{reducedForm}
-use Rattle.scaling.specs.Scaled.{numberOf, ScaledTo}
+use Rattle.scaling.specs.Scaled.{decimalOf, ScaledTo}
 use Rattle.scaling.proofs.Reducing.{inside}
 use Rattle.scaling.proofs.Texts.{mantissa-length}
 use Rattle.float_form.proofs.Forms as forms
@@ -16,12 +16,12 @@ use Rattle.float_form.proofs.put_float.Statement.{statement}
 use Rattle.float_form.proofs.put_float.Tie as tie
 
 zero : (c : tie.After-enum-told) →
-    let a = c .before .before .before .before .before .args in reducedForm (reduce (numberOf (a .text .now) (a .lit))) ≡ 48 ∷ 101 ∷ 48 ∷ []
+    let a = c .before .before .before .before .before .args in reducedForm (reduce (decimalOf (a .text .now) (a .lit))) ≡ 48 ∷ 101 ∷ 48 ∷ []
 zero c = forms.zero-form _ _ _ (c .before .before .scale .ensures) (c .enum-told .given .1)
 
 found : (c : tie.After-put-scaled-arg2) →
     let a = c .before .before .before .before .before .before .before .before .args in
-    ScaledTo (take (a .lit .«end_fractional_part») (a .text .now)) (numberOf (a .text .now) (a .lit)) (c .before .before .before .scaling .given .0 .0)
+    ScaledTo (take (a .lit .«end_fractional_part») (a .text .now)) (decimalOf (a .text .now) (a .lit)) (c .before .before .before .scaling .given .0 .0)
 found c = forms.found _ _ _ (c .before .before .before .before .before .scale .ensures) _ (c .before .before .before .scaling .given .1)
 
 scale-requires : tie.Need-scale-requires

@@ -28,10 +28,10 @@ returns c =
     let e = q .quote-end .result in
     let quote : getD s e 0 ≡ 34 = sym (c .before .byte-at .ensures) ∙ c .if3 .taken in
     let way : e ≡ 0 + rawRun (a .k) 0 (markOf 0) (drop 0 s) = omega (arith, q .quote-end .ensures, scan-quote (a .k) s) in
-    rw (t .if1 .taken) (scan-closes (a .k) 0 s 0 e way (raw-start _ _ _) (byte-inside s e 34 quote (omega arith)) quote (omega arith) _ refl refl refl)
+    rw (q .before .if2 .taken) (scan-closes (a .k) 0 s 0 e way (raw-start _ _ _) (byte-inside s e 34 quote (omega arith)) quote (omega arith) _ refl refl refl)
 
-measure-on-requires : tie.Need-measure-on-requires
-measure-on-requires c κs = search needs
+scan-body-requires : tie.Need-scan-body-requires
+scan-body-requires c κs = search needs
 
 returns-2 : tie.Need-returns-2
 returns-2 c = search needs
@@ -43,5 +43,5 @@ measure-raw-spec =
     quote-end-requires
     byte-at-requires
     returns
-    measure-on-requires
+    scan-body-requires
     returns-2)

@@ -7,7 +7,7 @@ use native.Mathlib.Omega.{arith}
 use lib.ListN.{length, drop}
 use Rattle.scan.proofs.Parts.{part-to-end}
 use Rattle.form.specs.Form.{integerForm}
-use Rattle.integer_value.specs.Value.{within}
+use Rattle.integer_value.specs.Value.{numberWithin}
 use Rattle.integer_value.specs.declared.Within.the-variants.{Number}
 use Rattle.settle.specs.Settled.{formed}
 use Rattle.bare_form.proofs.Readings.{integer-ends}
@@ -46,7 +46,7 @@ add-size c = search needs
 
 -- the number is at most the largest
 number : (c : tie.After-found) → let a = c .before .before .before .before .before .args in
-    Number (c .found .given .0 .0) ≡ within 18446744073709551615 (numberIn (a .text .now) (a .lit))
+    Number (c .found .given .0 .0) ≡ numberWithin 18446744073709551615 (numberIn (a .text .now) (a .lit))
 number c = sym (c .found .given .1) ∙ c .before .before .number-of .ensures
 
 -- the form without its suffix is measured

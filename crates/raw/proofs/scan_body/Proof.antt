@@ -1,4 +1,4 @@
--- `raw::measure_on` meets its contract.
+-- `raw::scan_body` meets its contract.
 -- Assumes nothing.
 use borrow.Author.Needs.{needs}
 use mathlib.Core.Path.{_≡_, refl, sym, _∙_}
@@ -14,8 +14,8 @@ use Rattle.body.proofs.Bodies.{Passed}
 use Rattle.body.proofs.Raws.{raw-start, raw-more, raw-measures}
 use Rattle.raw.specs.Scan.{markOf, rawRun}
 use Rattle.raw.proofs.Passes.{passed-scan, scan-closes, scan-ends}
-use Rattle.raw.proofs.measure_on.Statement.{statement}
-use Rattle.raw.proofs.measure_on.Tie as tie
+use Rattle.raw.proofs.scan_body.Statement.{statement}
+use Rattle.raw.proofs.scan_body.Tie as tie
 
 -- what is passed stands for itself
 abbrev Inv-loop : tie.InvT-loop
@@ -83,8 +83,8 @@ loop-again c =
     raw-more _ _ _ _ (passed (b .before .before))
     (sym (steps.raw-quote _ _ _ _ (quote-inside b) (quote b) _ refl (leb-false _ _ (sym (c .before .has-hashes .ensures) ∙ c .if2 .left))))
 
-pub measure-on-spec : {M : Type 1} → statement M
-measure-on-spec =
+pub scan-body-spec : {M : Type 1} → statement M
+scan-body-spec =
     tie.close
     (tie.spec
     Inv-loop
