@@ -1,7 +1,7 @@
 -- The numbers of parts of a text: of one byte, of parts one behind the other. For any test.
 -- Assumes nothing.
 use mathlib.Core.Path.{_≡_, _∙_}
-use mathlib.Core.Bool.{Bool}
+use mathlib.Core.Bool.{Bool, false}
 use mathlib.Core.List.{List}
 use Prim.Native.Nat.{ℕ, _+_, _≤_, _<_, max}
 use native.Mathlib.Omega.{arith}
@@ -25,6 +25,10 @@ module _ (p : ℕ → Bool) (s : List ℕ) where
   -- a number below 128 tells that all of them pass, so that the run goes on behind them
   pub halt-passed : (at n : ℕ) → at ≤ run p s → haltIn p at n s < 128 → at + n ≤ run p s
   halt-passed at n h o = omega (arith, run-past p at s h, by-lt (run p (drop at s)) n (λ l. absurd (omega (arith, broken at n l))) (λ l. l))
+
+  -- and where it reaches a byte that fails, it ends there
+  pub halt-last : (n : ℕ) → n < length s → n ≤ run p s → p (getD s n 0) ≡ false → n ≡ run p s
+  halt-last n h l e = omega (arith, run-stop p s n h e, run-past p n s l)
 
   pub halt-one : (at : ℕ) → at < length s → haltIn p at 1 s ≡ haltBy (p (getD s at 0))
   halt-one at h =

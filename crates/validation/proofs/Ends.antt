@@ -11,7 +11,7 @@ use Rattle.scan.proofs.Cases.{cond-lt}
 use Rattle.utf8.specs.Valid.{isUtf8}
 use Rattle.utf8.proofs.Valid.{isUtf8-front, isUtf8-ascii}
 use Rattle.block_validation.proofs.HighBytes.{highest-above}
-use Rattle.validation.specs.Windows.{highestIn, asciiFront}
+use Rattle.validation.specs.Windows.{highestIn, asciiFour}
 
 -- the bytes from an offset on are ASCII
 abbrev pub AsciiFrom : List ℕ → ℕ → Type 0
@@ -41,8 +41,8 @@ front-utf8 : (t : List ℕ) (n : ℕ) → n ≤ length t → highestIn 0 n t < 1
 front-utf8 t n l b =
     isUtf8-front t n (λ k h. omega (arith, getD-take n t k 0 h, highest-above 0 (take n t) k (omega (arith, length-take n t))))
 
-pub ascii-front : (t : List ℕ) → isUtf8 (drop (asciiFront t) t) ≡ isUtf8 t
-unfolding asciiFront
-ascii-front t =
+pub ascii-four : (t : List ℕ) → isUtf8 (drop (asciiFour t) t) ≡ isUtf8 t
+unfolding asciiFour
+ascii-four t =
     let P : ℕ → Type 0 = λ n. isUtf8 (drop n t) ≡ isUtf8 t in
     cond-lt P (length t) 8 (λ h. refl) λ h. cond-lt P (highestIn 0 4 t) 128 (λ g. front-utf8 t 4 (omega arith) g) (λ g. refl)

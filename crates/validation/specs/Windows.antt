@@ -12,5 +12,5 @@ abbrev pub highestIn : ℕ → ℕ → List ℕ → ℕ
 highestIn at n s = highestFrom 0 (take n (drop at s))
 
 -- how many bytes at the front are known to be ASCII by one test: four, where the text has eight or more and they are
-unfoldable pub asciiFront : List ℕ → ℕ
-asciiFront s = cond (ltb (length s) 8) 0 (cond (ltb (highestIn 0 4 s) 128) 4 0)
+unfoldable pub asciiFour : List ℕ → ℕ
+asciiFour s = cond (ltb (length s) 8) 0 (cond (ltb (highestIn 0 4 s) 128) 4 0)

@@ -8,7 +8,7 @@ ghost use Rattle.utf8.specs.Valid.{isUtf8};
 ghost use Rattle.utf8.specs.Cut.{tail};
 ghost use Rattle.validation.specs.Pairs.{PairAt};
 ghost use Rattle.block_validation.specs.HighBytes.{highestFrom};
-ghost use Rattle.validation.specs.Windows.{highestIn, asciiFront};
+ghost use Rattle.validation.specs.Windows.{highestIn, asciiFour};
 
 // Whether a byte 10xxxxxx stands at an offset; behind the end there is none.
 fn has_tail(text: &[u8], at: usize) -> bool
@@ -156,8 +156,8 @@ fn is_ascii(text: &[u8]) -> bool
 }
 
 // Four, where a text has eight bytes or more and its first four are ASCII; else 0.
-fn ascii_front(text: &[u8]) -> usize
-    ensures { λ r. ⌜ r ≡ asciiFront (now (text .entry)) ⌝ }
+fn ascii_four(text: &[u8]) -> usize
+    ensures { λ r. ⌜ r ≡ asciiFour (now (text .entry)) ⌝ }
 {
     if text.len() < 8 {
         return 0;
@@ -180,7 +180,7 @@ fn short_utf8(text: &[u8]) -> bool
             stop = last;
         }
     }
-    let mut at = ascii_front(text);
+    let mut at = ascii_four(text);
     while at < stop {
         if text[at] < 0x80 {
             at += 1;

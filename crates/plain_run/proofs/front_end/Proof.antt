@@ -6,9 +6,9 @@ use Prim.Native.Nat.{_+_, _-_, _≤_}
 use native.Mathlib.Omega.{arith}
 use lib.ListN.{length}
 use Rattle.scan.specs.Run.{run}
-use Rattle.scan.proofs.Runs.{run-stop, run-past}
+use Rattle.scan.proofs.Runs.{run-past}
 use Rattle.plain_run.specs.Plain.{plainByte}
-use Rattle.plain_run.proofs.Windows.{halt-passed}
+use Rattle.plain_run.proofs.Windows.{halt-passed, halt-last}
 use Rattle.plain_run.proofs.front_end.Statement.{statement}
 use Rattle.plain_run.proofs.front_end.Tie as tie
 
@@ -60,9 +60,7 @@ unfolding plainByte
 returns-3 c =
     let t = c .before .before .before in
     let a = t .before .before .before .before .before .before .args in
-    let p = plainByte (a .k) in
-    let n = length (a .s .now) - 1 in
-    omega (arith, eight t, c .before .before .if4 .taken, run-stop p (a .s .now) n (omega arith) (rw (c .if5 .taken)), run-past p n (a .s .now) (omega (arith, eight t, c .before .before .if4 .taken)))
+    halt-last (plainByte (a .k)) (a .s .now) (length (a .s .now) - 1) (omega arith) (omega (arith, eight t, c .before .before .if4 .taken)) (rw (c .if5 .taken))
 
 block-end-requires-3 : tie.Need-block-end-requires-3 Inv-loop μ-loop
 block-end-requires-3 c κs = search needs

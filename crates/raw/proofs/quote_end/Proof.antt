@@ -6,8 +6,8 @@ use Prim.Native.Nat.{_+_, _-_, _≤_}
 use native.Mathlib.Omega.{arith}
 use lib.ListN.{length}
 use Rattle.scan.specs.Run.{run}
-use Rattle.scan.proofs.Runs.{run-stop, run-past}
-use Rattle.plain_run.proofs.Windows.{halt-passed}
+use Rattle.scan.proofs.Runs.{run-past}
+use Rattle.plain_run.proofs.Windows.{halt-passed, halt-last}
 use Rattle.raw.specs.Scan.{beforeQuote}
 use Rattle.raw.proofs.quote_end.Statement.{statement}
 use Rattle.raw.proofs.quote_end.Tie as tie
@@ -54,9 +54,7 @@ unfolding beforeQuote
 returns-2 c =
     let t = c .before .before .before in
     let a = t .before .before .before .before .before .args in
-    let p = beforeQuote (a .k) in
-    let n = length (a .s .now) - 1 in
-    omega (arith, eight t, c .before .before .if3 .taken, run-stop p (a .s .now) n (omega arith) (rw (c .if4 .taken)), run-past p n (a .s .now) (omega (arith, eight t, c .before .before .if3 .taken)))
+    halt-last (beforeQuote (a .k)) (a .s .now) (length (a .s .now) - 1) (omega arith) (omega (arith, eight t, c .before .before .if3 .taken)) (rw (c .if4 .taken))
 
 run-before-quote-requires-2 : tie.Need-run-before-quote-requires-2 Inv-loop μ-loop
 run-before-quote-requires-2 c κs = search needs

@@ -12,7 +12,7 @@ use Rattle.utf8.proofs.Valid.{isUtf8-char, isUtf8-bad, isUtf8-ascii}
 use Rattle.block_validation.specs.HighBytes.{highestFrom}
 use Rattle.block_validation.proofs.HighBytes.{highest-above}
 use Rattle.block_validation.proofs.Ranges.{len-one}
-use Rattle.validation.proofs.Ends.{AsciiFrom, from-end, from-last, from-utf8, ascii-front}
+use Rattle.validation.proofs.Ends.{AsciiFrom, from-end, from-last, from-utf8, ascii-four}
 use Rattle.validation.proofs.short_utf8.Statement.{statement}
 use Rattle.validation.proofs.short_utf8.Tie as tie
 
@@ -46,11 +46,11 @@ behind c =
     (⊎-elim (λ w. rw (w .3) (from-end t)) (λ w. rw (w .1) (from-end t)))
     (c .if2 .came)
 
-ascii-front-requires : tie.Need-ascii-front-requires Inv-loop μ-loop
-ascii-front-requires c κs = search needs
+ascii-four-requires : tie.Need-ascii-four-requires Inv-loop μ-loop
+ascii-four-requires c κs = search needs
 
 loop-holds : tie.Need-loop-holds Inv-loop μ-loop
-loop-holds c = (behind (c .before) .0, rw (c .ascii-front .ensures) (ascii-front _))
+loop-holds c = (behind (c .before) .0, rw (c .ascii-four .ensures) (ascii-four _))
 
 shared-slice-read-if4 : tie.Need-shared-slice-read-if4 Inv-loop μ-loop
 shared-slice-read-if4 c = search needs
@@ -108,7 +108,7 @@ short-utf8-spec =
     returns
     sub-last
     highest-eight-requires
-    ascii-front-requires
+    ascii-four-requires
     loop-holds
     shared-slice-read-if4
     add-at
