@@ -12,7 +12,8 @@ use lib.Seq.{drop-cons}
 use borrow.Author.Tests.{ltb-true, lt-ltb, le-ltb}
 use Rattle.scan.specs.Run.{run, outs}
 use Rattle.scan.proofs.Runs.{run-each, run-part}
-use Rattle.block_validation.specs.HighBytes.{ascii, highestFrom}
+use Rattle.scan.specs.Sets.{ascii}
+use Rattle.block_validation.specs.HighBytes.{highestFrom}
 
 pub highest-more : (m : ℕ) (s : List ℕ) (i : ℕ) → i < length s → highestFrom m (drop i s) ≡ highestFrom (max m (getD s i 0)) (drop (i + 1) s)
 highest-more m s i h = rw (drop-cons s i 0, add-one)

@@ -6,7 +6,8 @@ ghost use lib.Dec.{ltb};
 ghost use lib.ListN.{length, take, drop};
 ghost use Rattle.scan.specs.Run.{run};
 ghost use Rattle.utf8.specs.Valid.{isUtf8};
-ghost use Rattle.block_validation.specs.HighBytes.{ascii, highestFrom};
+ghost use Rattle.scan.specs.Sets.{ascii};
+ghost use Rattle.block_validation.specs.HighBytes.{highestFrom};
 ghost use Rattle.block_validation.specs.Faults.{faultOf, worstFrom, worstBehind, cleanBehind};
 ghost use Rattle.block_validation.specs.Faults as faults;
 

@@ -5,3 +5,4 @@ pub mod Runs
 pub mod Sames
 pub mod Sets
 pub mod Bytes
+pub mod Windows

@@ -3,3 +3,4 @@ pub mod Byte
 pub mod Same
 pub mod Run
 pub mod Sets
+pub mod Windows

@@ -2,7 +2,7 @@
 -- Assumes nothing.
 use Prim.Native.Nat.{ℕ}
 use mathlib.Core.Bool.{Bool, not}
-use lib.Dec.{eqb}
+use lib.Dec.{eqb, ltb}
 use Rattle.scan.specs.declared.ByteSet.{ByteSet}
 use Rattle.scan.specs.declared.ByteSet.the-variants.{Except, Only}
 
@@ -17,3 +17,7 @@ only x b = eqb b x
 abbrev pub inSet : ByteSet → ℕ → Bool
 inSet (Except x) = except x
 inSet (Only x) = only x
+
+-- RFC 3629, section 3: a byte 0xxxxxxx is a character of its own, an ASCII one
+unfoldable pub ascii : ℕ → Bool
+ascii b = ltb b 128

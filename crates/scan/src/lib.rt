@@ -7,7 +7,8 @@ ghost use Rattle.scan.specs.Bit.{bit};
 ghost use Rattle.scan.specs.Byte.{byteOf};
 ghost use Rattle.scan.specs.Run.{run, outs};
 ghost use Rattle.scan.specs.Same.{same};
-ghost use Rattle.scan.specs.Sets.{inSet, except};
+ghost use Rattle.scan.specs.Sets.{inSet, except, ascii};
+ghost use Rattle.scan.specs.Windows.{allIn};
 
 // The byte at an index, or nothing past the end.
 pub enum Byte {
@@ -57,6 +58,30 @@ pub fn larger(a: u8, b: u8) -> u8
     ensures { λ r. ⌜ r ≡ max a b ⌝ }
 {
     if a < b { b } else { a }
+}
+
+// Whether the two bytes at an offset are ASCII. Both are tested in any case, so that of such tests, joined by `&`, the compiler makes one vector.
+pub fn two_ascii(s: &[u8], at: usize) -> bool
+    requires { ⌜ at + 2 ≤ length (now s) ⌝ }
+    ensures { λ r. ⌜ r ≡ allIn ascii at 2 (now (s .entry)) ⌝ }
+{
+    (s[at] < 128) & (s[at + 1] < 128)
+}
+
+// The same of four bytes.
+pub fn four_ascii(s: &[u8], at: usize) -> bool
+    requires { ⌜ at + 4 ≤ length (now s) ⌝ }
+    ensures { λ r. ⌜ r ≡ allIn ascii at 4 (now (s .entry)) ⌝ }
+{
+    two_ascii(s, at) & two_ascii(s, at + 2)
+}
+
+// The same of eight bytes.
+pub fn eight_ascii(s: &[u8], at: usize) -> bool
+    requires { ⌜ at + 8 ≤ length (now s) ⌝ }
+    ensures { λ r. ⌜ r ≡ allIn ascii at 8 (now (s .entry)) ⌝ }
+{
+    four_ascii(s, at) & four_ascii(s, at + 4)
 }
 
 // An offset that is `most` bytes further, or the end where that is nearer.

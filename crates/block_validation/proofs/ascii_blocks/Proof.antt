@@ -7,7 +7,7 @@ use lib.ListN.{length, drop}
 use borrow.Author.Needs.{needs}
 use Rattle.scan.specs.Run.{run}
 use Rattle.scan.proofs.Runs.{run-end}
-use Rattle.block_validation.specs.HighBytes.{ascii}
+use Rattle.scan.specs.Sets.{ascii}
 use Rattle.block_validation.proofs.HighBytes.{ascii-part}
 use Rattle.block_validation.proofs.ascii_blocks.Statement.{statement}
 use Rattle.block_validation.proofs.ascii_blocks.Tie as tie

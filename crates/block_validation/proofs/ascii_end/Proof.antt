@@ -6,7 +6,7 @@ use lib.ListN.{length, drop}
 use borrow.Author.Needs.{needs}
 use Rattle.scan.specs.Run.{run}
 use Rattle.scan.proofs.Runs.{run-more, run-stop, run-end}
-use Rattle.block_validation.specs.HighBytes.{ascii}
+use Rattle.scan.specs.Sets.{ascii}
 use Rattle.block_validation.proofs.HighBytes.{ascii-low, ascii-high}
 use Rattle.block_validation.proofs.ascii_end.Statement.{statement}
 use Rattle.block_validation.proofs.ascii_end.Tie as tie

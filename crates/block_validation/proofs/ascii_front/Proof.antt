@@ -6,7 +6,7 @@ use native.Mathlib.Omega.{arith}
 use lib.ListN.{length, drop}
 use borrow.Author.Needs.{needs}
 use Rattle.scan.specs.Run.{run}
-use Rattle.block_validation.specs.HighBytes.{ascii}
+use Rattle.scan.specs.Sets.{ascii}
 use Rattle.block_validation.proofs.HighBytes.{ascii-part}
 use Rattle.block_validation.proofs.ascii_front.Statement.{statement}
 use Rattle.block_validation.proofs.ascii_front.Tie as tie

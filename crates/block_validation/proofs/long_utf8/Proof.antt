@@ -3,7 +3,7 @@
 use mathlib.Core.Path.{sym, _∙_}
 use native.Mathlib.Omega.{arith}
 use Rattle.scan.proofs.Runs.{run-le}
-use Rattle.block_validation.specs.HighBytes.{ascii}
+use Rattle.scan.specs.Sets.{ascii}
 use Rattle.block_validation.proofs.HighBytes.{ascii-each}
 use Rattle.utf8.proofs.Valid.{isUtf8-ascii}
 use Rattle.block_validation.proofs.Clean.{clean-text}
