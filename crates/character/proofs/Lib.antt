@@ -4,3 +4,4 @@ pub mod Exact
 pub mod Values
 pub mod OneChar
 pub mod Examples
+pub mod Facts

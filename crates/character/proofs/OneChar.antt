@@ -2,7 +2,7 @@
 -- Assumes nothing.
 use mathlib.Core.Path.{_≡_, refl, sym, ap, _∙_, subst}
 use mathlib.Core.Logic.{inl}
-use mathlib.Core.Bool.{true, not, _&&_, and-eq-true-iff}
+use mathlib.Core.Bool.{true, false, not, _&&_, and-eq-true-iff}
 use mathlib.Core.List.{List, [], _∷_, _++_}
 use Prim.Native.Nat.{ℕ, suc, _+_, _-_, _≤_, _<_}
 use native.Mathlib.Omega.{arith}
@@ -24,50 +24,57 @@ use Rattle.utf8.proofs.Valid.{isUtf8-right}
 use Rattle.single_quote.specs.Content.{special}
 use Rattle.character.specs.Single.{charRead}
 use Rattle.character.specs.Parts.{Plain, char}
-use Rattle.character.specs.Alone.{plainFirst, enclosed, aloneIn}
+use Rattle.character.specs.Alone.{plainFirst, enclosed, charIn}
 use Rattle.character.proofs.Exact.{first-byte, plain-char, char-complete}
 
-first-plain : (b : ℕ) → plainFirst b ≡ true → Plain b
+-- the tests of the first byte between the quotes
+pub first-tests : (b : ℕ) → plainFirst b ≡ true → (eqb b 39 ≡ false) × (eqb b 92 ≡ false) × (special b ≡ false)
 unfolding plainFirst
-first-plain b h =
+first-tests b h =
     let p = and-eq-true-iff (not (eqb b 39)) (not (eqb b 92) && not (special b)) .0 h in
     let q = and-eq-true-iff (not (eqb b 92)) (not (special b)) .0 (p .1) in
+    (not-true (eqb b 39) (p .0), not-true (eqb b 92) (q .0), not-true (special b) (q .1))
+
+first-plain : (b : ℕ) → plainFirst b ≡ true → Plain b
+first-plain b h =
+    let t = first-tests b h in
     record {
-      quote = λ e. clash (p .0) (ap not (eq-eqb b 39 e));
-      backslash = λ e. clash (q .0) (ap not (eq-eqb b 92 e));
-      blank = not-true (special b) (q .1);
+      quote = λ e. clash (eq-eqb b 39 e) (t .0);
+      backslash = λ e. clash (eq-eqb b 92 e) (t .1);
+      blank = t .2;
     }
 
-module _ (s : List ℕ) (c n : ℕ) (e : aloneIn s ≡ decoded.Char c n) where
+-- and of the two outer bytes
+pub quotes : (s : List ℕ) → enclosed s ≡ true → (3 ≤ length s) × (getD s 0 0 ≡ 39) × (getD s (length s - 1) 0 ≡ 39)
+unfolding enclosed
+quotes s e =
+    let p = and-eq-true-iff (leb 3 (length s)) (eqb (getD s 0 0) 39 && eqb (getD s (length s - 1) 0) 39) .0 e in
+    let q = and-eq-true-iff (eqb (getD s 0 0) 39) (eqb (getD s (length s - 1) 0) 39) .0 (p .1) in
+    (leb-true 3 (length s) (p .0), eqb-true (getD s 0 0) 39 (q .0), eqb-true (getD s (length s - 1) 0) 39 (q .1))
+
+module _ (s : List ℕ) (c n : ℕ) (e : charIn s ≡ decoded.Char c n) where
   tests : (enclosed s ≡ true) × (plainFirst (getD s 1 0) ≡ true) × Scalar c × (take (length s - 2) (drop 1 s) ≡ encode c)
-  unfolding aloneIn
+  unfolding charIn
   tests =
       let p = char-if (enclosed s && plainFirst (getD s 1 0)) (onlyChar (take (length s - 2) (drop 1 s))) e in
       let q = and-eq-true-iff (enclosed s) (plainFirst (getD s 1 0)) .0 (p .0) in
       let f = only-found (take (length s - 2) (drop 1 s)) c n (p .1) in
       (q .0, q .1, f .0, f .1)
 
-  quotes : (3 ≤ length s) × (getD s 0 0 ≡ 39) × (getD s (length s - 1) 0 ≡ 39)
-  unfolding enclosed
-  quotes =
-      let p = and-eq-true-iff (leb 3 (length s)) (eqb (getD s 0 0) 39 && eqb (getD s (length s - 1) 0) 39) .0 (tests .0) in
-      let q = and-eq-true-iff (eqb (getD s 0 0) 39) (eqb (getD s (length s - 1) 0) 39) .0 (p .1) in
-      (leb-true 3 (length s) (p .0), eqb-true (getD s 0 0) 39 (q .0), eqb-true (getD s (length s - 1) 0) 39 (q .1))
-
   -- the text is these three parts
   pub alone-text : s ≡ 39 ∷ (encode c ++ (39 ∷ []))
   alone-text =
       let k = length s - 2 in
-      let first : 0 < length s = omega (arith, quotes .0) in
-      let inside : 1 + k < length s = omega (arith, quotes .0) in
+      let first : 0 < length s = omega (arith, quotes s (tests .0) .0) in
+      let inside : 1 + k < length s = omega (arith, quotes s (tests .0) .0) in
       let all : length s ≤ suc (1 + k) = omega arith in
-      let at : 1 + k ≡ length s - 1 = omega (arith, quotes .0) in
+      let at : 1 + k ≡ length s - 1 = omega (arith, quotes s (tests .0) .0) in
       let back : drop k (drop 1 s) ≡ 39 ∷ [] =
       drop-drop k 1 s ∙ drop-cons s (1 + k) 0 inside
       ∙ ap (λ (l : List ℕ). getD s (1 + k) 0 ∷ l) (drop-of-length-le s all)
-      ∙ ap (λ (b : ℕ). b ∷ []) (ap (λ (i : ℕ). getD s i 0) at ∙ quotes .2)
+      ∙ ap (λ (b : ℕ). b ∷ []) (ap (λ (i : ℕ). getD s i 0) at ∙ quotes s (tests .0) .2)
       in
-      drop-cons s 0 0 first ∙ ap (λ (b : ℕ). b ∷ drop 1 s) (quotes .1)
+      drop-cons s 0 0 first ∙ ap (λ (b : ℕ). b ∷ drop 1 s) (quotes s (tests .0) .1)
       ∙ ap (λ (l : List ℕ). 39 ∷ l)
       (sym (take-append-drop k (drop 1 s)) ∙ ap (λ (l : List ℕ). l ++ drop k (drop 1 s)) (tests .3) ∙ ap (λ (l : List ℕ). encode c ++ l) back)
 

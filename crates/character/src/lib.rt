@@ -13,13 +13,20 @@ ghost use Prim.Native.Nat.{_≤_, _<_};
 ghost use lib.ListN.{length};
 ghost use Rattle.err.specs.Reading.{outcomeOf};
 ghost use Rattle.single_quote.specs.Content.{innerOf};
-ghost use Rattle.character.specs.Alone.{plainFirst, aloneIn};
+ghost use Rattle.character.specs.Alone.{plainFirst, quoteAlone, pairAlone, aloneIn};
 ghost use Rattle.character.specs.Single.{singleOf, suffixedAt, closedAt, scalarOf, escapedAt, firstAt, singleAt, readBy};
 
 // The value and where the suffix starts, or why a text is no such literal.
 pub enum Single {
     Value(u32, usize),
     Refused(ParseErrorKind, Span),
+}
+
+// What a text's first bytes tell of its reading, before it is checked: a char and nothing else, a refusal, or nothing.
+pub enum Told {
+    Char(u32),
+    Refused(ParseErrorKind, Span),
+    Unknown,
 }
 
 // Behind the closing quote: the suffix, whose fault spans its first byte.
@@ -122,24 +129,60 @@ fn is_plain_first(b: u8) -> bool
     !single_quote::is_special(b)
 }
 
-// The character of a text that is a quote, a character that stands for itself, and a quote; none of another text.
-pub fn alone(text: &[u8]) -> Decoded
+// `'''`: the quote in the middle was not escaped.
+fn quote_alone(text: &[u8]) -> Told
+    ensures { λ r. ⌜ r ≡ quoteAlone (now (text .entry)) ⌝ }
+{
+    if text.len() != 3 {
+        return Told::Unknown;
+    }
+    if text[1] != b'\'' {
+        return Told::Unknown;
+    }
+    Told::Refused(ParseErrorKind::UnescapedSingleQuote, Span::Between(1, 2))
+}
+
+// Two ASCII characters between two quotes: one too many, unless the second is a quote.
+fn pair_alone(text: &[u8]) -> Told
+    ensures { λ r. ⌜ r ≡ pairAlone (now (text .entry)) ⌝ }
+{
+    if text.len() != 4 {
+        return Told::Unknown;
+    }
+    if 127 < text[1] {
+        return Told::Unknown;
+    }
+    if 127 < text[2] {
+        return Told::Unknown;
+    }
+    if text[2] == b'\'' {
+        return Told::Unknown;
+    }
+    Told::Refused(ParseErrorKind::OverlongCharLiteral, Span::Nowhere)
+}
+
+// What the few bytes of a text between two quotes tell: one character that stands for itself, or one of the two refusals above.
+pub fn alone(text: &[u8]) -> Told
     ensures { λ r. ⌜ r ≡ aloneIn (now (text .entry)) ⌝ }
 {
     if text.len() < 3 {
-        return Decoded::Bad;
+        return Told::Unknown;
     }
     if text[0] != b'\'' {
-        return Decoded::Bad;
+        return Told::Unknown;
     }
     let last = text.len() - 1;
     if text[last] != b'\'' {
-        return Decoded::Bad;
+        return Told::Unknown;
     }
     if !is_plain_first(text[1]) {
-        return Decoded::Bad;
+        return quote_alone(text);
     }
-    utf8::only_char(&text[1..last])
+    let found = utf8::only_char(&text[1..last]);
+    let Decoded::Char { scalar, .. } = found else {
+        return pair_alone(text);
+    };
+    Told::Char(scalar)
 }
 
 // Of a text that starts with the quote.

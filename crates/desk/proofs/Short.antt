@@ -1,6 +1,6 @@
--- What is told of a text without reading it: the numbers of a bool, of no bytes, and of one character between two quotes.
+-- What is told of a text without reading it: the numbers of a bool, of no bytes, and of what its first bytes tell.
 -- Assumes nothing.
-use mathlib.Core.Path.{_≡_, refl, ap, _∙_}
+use mathlib.Core.Path.{_≡_, refl, ap, subst, _∙_}
 use mathlib.Core.Bool.{true, _&&_, and-eq-true-iff}
 use mathlib.Core.List.{List, [], _∷_}
 use Prim.Native.Nat.{ℕ}
@@ -9,16 +9,21 @@ use lib.Dec.{eqb, leb}
 use lib.ListN.{length}
 use borrow.Author.Tests.{eqb-true}
 use Rattle.err.specs.Outcome.{refused, none}
+use Rattle.err.specs.Numbers.{numberOf}
+use Rattle.err.specs.Reading.{placeOf}
+use Rattle.err.specs.declared.ParseErrorKind.{ParseErrorKind}
+use Rattle.err.specs.declared.Span.{Span}
 use Rattle.scan.specs.Same.{same}
 use Rattle.utf8.specs.Valid.{charsWithin, isUtf8}
-use Rattle.utf8.specs.declared.Decoded.the-variants as decoded
+use Rattle.character.specs.declared.Told.the-variants as told
 use Rattle.boolean.specs.Bool.{trueText, isBool}
 use Rattle.boolean.proofs.Laws.{bool-truth}
 use Rattle.input.specs.Checks.{textFault}
-use Rattle.literal.specs.Readings.{anyRead, entryRead, boolAt, charAt, readAt}
+use Rattle.literal.specs.Readings.{anyRead, entryRead, boolAt, readAt}
+use Rattle.literal.specs.Early.{toldAt}
 use Rattle.literal.proofs.Bools.{bool-read}
-use Rattle.literal.proofs.Chars.{char-read}
-use Rattle.numbers.specs.Numbers.{truthNumber, readingNumbers}
+use Rattle.literal.proofs.Early.{Tells, told-read}
+use Rattle.numbers.specs.Numbers.{truthNumber, placeNumbers, readingNumbers}
 
 pub bool-numbers : (code : ℕ) (s : List ℕ) → boolAt code s ≡ true → readingNumbers (readAt code s) ≡ 1 ∷ length s ∷ truthNumber (same s trueText) ∷ 0 ∷ 0 ∷ []
 unfolding boolAt
@@ -34,5 +39,10 @@ nothing-numbers code [] h =
     rw e (ap readingNumbers no-bytes)
 nothing-numbers code (b ∷ s) h = absurd (omega (arith, eqb-true (length (b ∷ s)) 0 (and-eq-true-iff (eqb (length (b ∷ s)) 0) (eqb code 0) .0 h .0)))
 
-pub char-numbers : (code : ℕ) (s : List ℕ) (c n : ℕ) → charAt code s ≡ decoded.Char c n → readingNumbers (readAt code s) ≡ 4 ∷ length s ∷ c ∷ 0 ∷ 0 ∷ []
-char-numbers code s c n h = ap readingNumbers (char-read code s c n h)
+module _ (code : ℕ) (s : List ℕ) where
+  -- what a text's first bytes tell
+  pub char-numbers : (c : ℕ) → toldAt code s ≡ told.Char c → readingNumbers (readAt code s) ≡ 4 ∷ length s ∷ c ∷ 0 ∷ 0 ∷ []
+  char-numbers c h = ap readingNumbers (subst (Tells (readAt code s) (length s)) h (told-read code s))
+
+  pub refusal-numbers : (k : ParseErrorKind) (p : Span) → toldAt code s ≡ told.Refused k p → readingNumbers (readAt code s) ≡ 0 ∷ numberOf k ∷ placeNumbers (placeOf p)
+  refusal-numbers k p h = ap readingNumbers (subst (Tells (readAt code s) (length s)) h (told-read code s))

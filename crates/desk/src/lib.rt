@@ -1,4 +1,5 @@
 // The entries for C (include/keybasket.h): numbers and byte slices only. None has a `requires`: any code and any bytes may be handed in.
+use character::Told;
 use err::Reading;
 use integer_value::IntegerValue;
 use settle::Settled;
@@ -82,8 +83,7 @@ fn is_nothing(entry: u64, text: &[u8]) -> bool
 }
 
 // The reading of a text by entry code, as five numbers: kind, start of suffix and values; or 0, the refusal number and the span. A bool by entry
-// 0 or 1, no bytes by entry 0, and one character that stands for itself between two quotes by entry 0 or 4 are told at once, so that they pay for
-// no call of `read`.
+// 0 or 1, no bytes by entry 0, and what a text's first bytes tell by entry 0 or 4 pay for no call of `read`.
 #[no_mangle]
 pub extern "C" fn keybasket_read(entry: u64, text: &[u8], answer: &mut [u64; 5])
     ensures { λ r. ⌜ now (answer .exit) ≡ readingNumbers (readAt entry (now (text .entry))) ⌝ }
@@ -103,13 +103,17 @@ pub extern "C" fn keybasket_read(entry: u64, text: &[u8], answer: &mut [u64; 5])
         *answer = [0, 1, 0, 0, 0];
         return;
     }
-    let alone = literal::char_at(entry, text);
-    match alone {
-        utf8::Decoded::Char { scalar, .. } => {
+    let told = literal::told_at(entry, text);
+    match told {
+        Told::Char(scalar) => {
             *answer = [4, text.len() as u64, scalar as u64, 0, 0];
             return;
         }
-        utf8::Decoded::Bad => {}
+        Told::Refused(kind, span) => {
+            *answer = numbers::span_numbers(err::number(kind) as u64, span);
+            return;
+        }
+        Told::Unknown => {}
     }
     let found = literal::read(entry, text);
     match found {

@@ -9,5 +9,5 @@ pub mod Inside
 pub mod Refusals
 pub mod Answers
 pub mod Bools
-pub mod Chars
+pub mod Early
 pub mod Calls

@@ -3,3 +3,4 @@ pub mod Suffixes
 pub mod Readings
 pub mod Decodes
 pub mod Inside
+pub mod Early

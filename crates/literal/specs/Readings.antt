@@ -10,12 +10,9 @@ use Rattle.parse.specs.Sets.{decDigit}
 use Rattle.boolean.specs.Bool.{isBool, boolRead}
 use Rattle.integer.specs.Integer.{integerRead}
 use Rattle.float.specs.Float.{floatRead}
-use Rattle.utf8.specs.declared.Decoded.{Decoded}
-use Rattle.utf8.specs.declared.Decoded.the-variants.{Bad}
 use Rattle.single_quote.specs.declared.Quote.{Quote}
 use Rattle.single_quote.specs.declared.Quote.the-variants.{Char, Byte}
 use Rattle.character.specs.Single.{charRead, byteRead}
-use Rattle.character.specs.Alone.{aloneIn}
 use Rattle.string.specs.String.{stringRead}
 use Rattle.string.specs.declared.Kind.{Kind}
 use Rattle.string.specs.declared.Kind.the-variants.{Text, Bytes, C}
@@ -75,10 +72,6 @@ readAt code s =
 -- a bool by entry 0 or 1: nothing is wrong with such a text, so that it need not be checked (law `bool-read`)
 unfoldable pub boolAt : ℕ → List ℕ → Bool
 boolAt code s = leb code 1 && isBool s
-
--- a character that stands for itself between two quotes, and nothing else, by entry 0 or 4: likewise (law `char-read`)
-unfoldable pub charAt : ℕ → List ℕ → Decoded
-charAt code s = cond (eqb code 0 || eqb code 4) (aloneIn s) Bad
 
 -- char or byte, by entry 4 or 6
 unfoldable pub quoteIn : ℕ → Quote

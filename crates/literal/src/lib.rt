@@ -1,5 +1,6 @@
 // The calls that a user makes, of any code and any bytes. A refusal is the first of 42, 43, 44, litrs's own, 45 or 48.
 // The last clause of each user's call's contract says that the text at exit is what it was at entry.
+use character::Told;
 use err::Checked;
 use err::ParseErrorKind;
 use err::Reading;
@@ -19,7 +20,8 @@ ghost use lib.ListN.{length};
 ghost use Rattle.integer_value.specs.Value.{valuedOf};
 ghost use Rattle.err.specs.Reading.{outcomeOf};
 ghost use Rattle.string.specs.Decode.{decodedOf};
-ghost use Rattle.literal.specs.Readings.{quoteIn, stringKindIn, entryRead, boolAt, charAt, readAt};
+ghost use Rattle.literal.specs.Readings.{quoteIn, stringKindIn, entryRead, boolAt, readAt};
+ghost use Rattle.literal.specs.Early.{startsNothing, unquoted, toldAt};
 ghost use Rattle.literal.specs.Decodes.{kindCoded, decodeAt, bufferAt};
 ghost use Rattle.literal.specs.Values.{valueAt};
 ghost use Rattle.literal.specs.Suffixes.{integerFromSuffix, floatFromSuffix};
@@ -90,15 +92,55 @@ pub fn is_bool_at(code: u64, text: &[u8]) -> bool
     boolean::is_bool(text)
 }
 
-// The character of a text that is one character, which stands for itself, between two quotes, and is read as a char. Its few bytes tell, so that
-// it pays for no check. For `desk`, no call of a user's.
-pub fn char_at(code: u64, text: &[u8]) -> utf8::Decoded
-    ensures { λ r. ⌜ r ≡ charAt code (now (text .entry)) ⌝ }
+// Whether no literal starts with a byte: one from `:` to `a`. Names most often start with a capital letter.
+fn starts_nothing(b: u8) -> bool
+    ensures { λ r. ⌜ r ≡ startsNothing b ⌝ }
+{
+    if b < b':' {
+        return false;
+    }
+    b <= b'a'
+}
+
+// Whether a text is a short name without quotes, of nine to seventeen ASCII bytes.
+fn is_unquoted(text: &[u8]) -> bool
+    ensures { λ r. ⌜ r ≡ unquoted (now (text .entry)) ⌝ }
+{
+    if text.len() < 9 {
+        return false;
+    }
+    if !starts_nothing(text[0]) {
+        return false;
+    }
+    validation::is_short_ascii(&text[1..])
+}
+
+// What the first bytes of a text tell of its reading by entry 0 or 4, so that it pays for no check: of a few bytes between two quotes, and by
+// entry 0 of a short name without quotes. For `desk`, no call of a user's.
+pub fn told_at(code: u64, text: &[u8]) -> Told
+    ensures { λ r. ⌜ r ≡ toldAt code (now (text .entry)) ⌝ }
 {
     match code {
-        0 | 4 => character::alone(text),
-        _ => utf8::Decoded::Bad,
+        0 | 4 => {}
+        _ => return Told::Unknown,
     }
+    if text.len() < 3 {
+        return Told::Unknown;
+    }
+    if text[0] == b'\'' {
+        return character::alone(text);
+    }
+    // not `is_unquoted`: most texts are told apart by their first byte
+    if !starts_nothing(text[0]) {
+        return Told::Unknown;
+    }
+    if code == 4 {
+        return Told::Unknown;
+    }
+    if validation::is_short_ascii(&text[1..]) {
+        return Told::Refused(ParseErrorKind::InvalidLiteral, Span::Nowhere);
+    }
+    Told::Unknown
 }
 
 // The reading of a text by entry code.
@@ -129,6 +171,9 @@ pub fn value(code: u64, text: &[u8]) -> IntegerValue
     let Largest::Value(largest) = most else {
         return IntegerValue::Refused(ParseErrorKind::BadCode, Span::Nowhere);
     };
+    if is_unquoted(text) {
+        return IntegerValue::Refused(ParseErrorKind::DoesNotStartWithDigit, Span::Between(0, 1));
+    }
     let reading = read(2, text);
     match reading {
         Reading::Integer(lit) => integer_value::value_of(text, lit, largest),

@@ -1,51 +1,60 @@
--- The numbers of parts of a text: of one byte, of parts one behind the other. For any test.
+-- Eight bytes by twos, for any test, and the bytes that `pass_eight` tells of: they stand for themselves.
 -- Assumes nothing.
-use mathlib.Core.Path.{_≡_, _∙_}
-use mathlib.Core.Bool.{Bool, false}
+use mathlib.Core.Path.{_≡_, refl, sym}
+use mathlib.Core.Bool.{Bool, true, false, cond, not, _&&_}
 use mathlib.Core.List.{List}
-use Prim.Native.Nat.{ℕ, _+_, _≤_, _<_, max}
+use Prim.Native.Nat.{ℕ, zero, suc, _+_, _≤_, _<_}
 use native.Mathlib.Omega.{arith}
-use lib.ListN.{length, getD, drop}
-use lib.Seq.{drop-drop}
-use borrow.Author.Tests.{le-leb, lt-leb}
+use lib.Dec.{eqb, ltb}
+use lib.ListN.{length, getD}
+use borrow.Author.Tests.{ltb-true, le-ltb}
 use Rattle.scan.specs.Run.{run}
-use Rattle.scan.proofs.Cases.{by-lt, cond-in}
-use Rattle.scan.proofs.Runs.{run-more, run-stop, run-past}
-use Rattle.plain_run.specs.Windows.{haltBy, haltIn}
+use Rattle.scan.specs.Sets.{ascii}
+use Rattle.scan.specs.Windows.{allIn}
+use Rattle.scan.proofs.Cases.{clash}
+use Rattle.scan.proofs.Runs.{run-reach}
+use Rattle.scan.proofs.Windows.{all-each, all-join}
+use Rattle.escape.specs.Allows.{unicode, allowNul}
+use Rattle.escape.specs.declared.Allowed.{Allowed}
+use Rattle.plain_run.specs.Plain.{plainByte}
+use Rattle.plain_run.specs.Windows.{sureByte, passIn}
 
-module _ (p : ℕ → Bool) (s : List ℕ) where
-  whole : (at n : ℕ) → n ≤ run p (drop at s) → haltIn p at n s ≡ 127
-  unfolding haltIn
-  whole at n h = rw (le-leb n (run p (drop at s)) h)
+-- what was found of eight bytes by twos
+pub all-twos : (p : ℕ → Bool) (s : List ℕ) (at : ℕ) {t u v w : Bool}
+    → t ≡ allIn p at 2 s → u ≡ allIn p (at + 2) 2 s → v ≡ allIn p (at + 4) 2 s → w ≡ allIn p (at + 6) 2 s → (t && u && (v && w)) ≡ allIn p at 8 s
+all-twos p s at d e f g =
+    let six : at + 6 ≡ at + 4 + 2 = omega arith in
+    all-join p s at 4 4 (all-join p s at 2 2 d e) (all-join p s (at + 4) 2 2 f (rw six at g))
 
-  broken : (at n : ℕ) → run p (drop at s) < n → haltIn p at n s ≡ 128
-  unfolding haltIn
-  broken at n h = rw (lt-leb n (run p (drop at s)) h)
+-- a sure byte stands for itself, where it is ASCII or the kind has other characters
+sure-plain : (k : Allowed) (b : ℕ) → sureByte b ≡ true → (unicode k ≡ false → ascii b ≡ true) → plainByte k b ≡ true
+unfolding plainByte sureByte ascii
+sure-plain k b e f = go (eqb b 92) (eqb b 34) (eqb b 13) (eqb b 0) (ltb 127 b) (unicode k) e (λ x. le-ltb 127 b (omega (arith, ltb-true b 128 (f x))))
+  where
+    go : (backslash quote cr nul high u : Bool) → (not backslash && not quote && (not cr && not nul)) ≡ true → (u ≡ false → high ≡ false)
+        → cond backslash false (cond cr false (cond quote false (cond nul (allowNul k) (cond high u true)))) ≡ true
+    go true q c n h u e f = e
+    go false true c n h u e f = clash e refl
+    go false false true n h u e f = e
+    go false false false true h u e f = clash e refl
+    go false false false false true true e f = refl
+    go false false false false true false e f = sym (f refl)
+    go false false false false false u e f = refl
 
-  -- a number below 128 tells that all of them pass, so that the run goes on behind them
-  pub halt-passed : (at n : ℕ) → at ≤ run p s → haltIn p at n s < 128 → at + n ≤ run p s
-  halt-passed at n h o = omega (arith, run-past p at s h, by-lt (run p (drop at s)) n (λ l. absurd (omega (arith, broken at n l))) (λ l. l))
-
-  -- and where it reaches a byte that fails, it ends there
-  pub halt-last : (n : ℕ) → n < length s → n ≤ run p s → p (getD s n 0) ≡ false → n ≡ run p s
-  halt-last n h l e = omega (arith, run-stop p s n h e, run-past p n s l)
-
-  pub halt-one : (at : ℕ) → at < length s → haltIn p at 1 s ≡ haltBy (p (getD s at 0))
-  halt-one at h =
-      cond-in (λ (n : ℕ). haltIn p at 1 s ≡ n) (p (getD s at 0)) (λ e. whole at 1 (omega (arith, run-more p s at h e))) (λ e. broken at 1 (omega (arith, run-stop p s at h e)))
-
-  pub halt-halves : (at a b : ℕ) → haltIn p at (a + b) s ≡ max (haltIn p at a s) (haltIn p (at + a) b s)
-  halt-halves at a b = by-lt (run p (drop at s)) a first λ h.
-      let past : run p (drop at s) ≡ a + run p (drop (at + a) s) = rw (← drop-drop) (run-past p a (drop at s) h) in
-      by-lt (run p (drop (at + a) s)) b (λ g. omega (arith, broken at (a + b) (omega arith), whole at a h, broken (at + a) b g))
-      (λ g. omega (arith, whole at (a + b) (omega arith), whole at a h, whole (at + a) b g))
+module _ (k : Allowed) (s : List ℕ) (at : ℕ) where
+  each : passIn k at s ≡ true → (i : ℕ) → i < 8 → plainByte k (getD s (at + i) 0) ≡ true
+  unfolding passIn
+  each e i h = by-kind (unicode k) (allIn ascii at 8 s) refl refl e
     where
-      most : haltIn p (at + a) b s ≤ 128
-      most = by-lt (run p (drop (at + a) s)) b (λ g. omega (arith, broken (at + a) b g)) (λ g. omega (arith, whole (at + a) b g))
+      by-kind : (u a : Bool) → unicode k ≡ u → allIn ascii at 8 s ≡ a → cond u (allIn sureByte at 8 s) (a && allIn sureByte at 8 s) ≡ true → plainByte k (getD s (at + i) 0) ≡ true
+      by-kind true a x y e = sure-plain k _ (all-each sureByte s at 8 i e h) (λ z. clash x z)
+      by-kind false true x y e = sure-plain k _ (all-each sureByte s at 8 i e h) (λ z. all-each ascii s at 8 i y h)
+      by-kind false false x y e = clash e refl
 
-      first : run p (drop at s) < a → haltIn p at (a + b) s ≡ max (haltIn p at a s) (haltIn p (at + a) b s)
-      first h = omega (arith, broken at (a + b) (omega arith), broken at a h, most)
-
-  -- eight bytes by twos
-  pub halt-twos : (at : ℕ) → haltIn p at 8 s ≡ max (max (haltIn p at 2 s) (haltIn p (at + 2) 2 s)) (max (haltIn p (at + 4) 2 s) (haltIn p (at + 6) 2 s))
-  halt-twos at = let six : at + 4 + 2 ≡ at + 6 = omega arith in halt-halves at 4 4 ∙ rw (halt-halves at 2 2, halt-halves (at + 4) 2 2, six)
+  -- so that the run goes on behind them
+  pub eight-passed : at + 8 ≤ length s → at ≤ run (plainByte k) s → passIn k at s ≡ true → at + 8 ≤ run (plainByte k) s
+  eight-passed l h e = go 8 (omega arith)
+    where
+      go : (n : ℕ) → n ≤ 8 → at + n ≤ run (plainByte k) s
+      go zero g = omega arith
+      go (suc n) g = omega (arith, run-reach (plainByte k) s (at + n) (omega arith) (go n (omega arith)) (each e n (omega arith)))

@@ -5,9 +5,9 @@ ghost use mathlib.Core.Bool.{cond};
 ghost use Prim.Native.Nat.{_+_, _-_, _≤_, min};
 ghost use lib.ListN.{length, drop};
 ghost use Rattle.scan.specs.Run.{run};
-ghost use Rattle.escape.specs.Allows.{unicode, allowNul};
+ghost use Rattle.scan.specs.Windows.{allIn};
 ghost use Rattle.plain_run.specs.Plain.{plainByte};
-ghost use Rattle.plain_run.specs.Windows.{haltBy, haltIn};
+ghost use Rattle.plain_run.specs.Windows.{sureByte, passIn};
 
 // Whether a byte stands for itself.
 pub fn is_plain(b: u8, k: Allowed) -> bool
@@ -120,50 +120,39 @@ pub fn run_end(s: &[u8], from: usize, k: Allowed) -> usize
     plain_end(s, next, k)
 }
 
-// The lowest byte that may stand for itself.
-pub fn lowest_plain(k: Allowed) -> u8
-    ensures { λ r. ⌜ r ≡ cond (allowNul k) 0 1 ⌝ }
+// Whether a byte stands for itself in every kind of body, but for those above 127. Zero bytes, which some kinds allow, are left to the loop
+// over bytes. Four tests, each made in any case: the compiler makes one vector of those of eight bytes.
+fn is_sure(b: u8) -> bool
+    ensures { λ r. ⌜ r ≡ sureByte b ⌝ }
 {
-    if k.allow_nul() { 0 } else { 1 }
+    (b != b'\\') & (b != b'"') & ((b != b'\r') & (b != 0))
 }
 
-// The highest byte that may stand for itself.
-pub fn highest_plain(k: Allowed) -> u8
-    ensures { λ r. ⌜ r ≡ cond (unicode k) 255 127 ⌝ }
-{
-    if k.unicode() { 255 } else { 127 }
-}
-
-// 127 for a byte that stands for itself, 128 for one at which a run halts: the highest bit tells. Every test is made, so that the compiler makes
-// one vector of eight bytes' numbers.
-fn halt(b: u8, k: Allowed) -> u8
-    ensures { λ r. ⌜ r ≡ haltBy (plainByte k b) ⌝ }
-{
-    127
-        + scan::bit(b == b'\\')
-        + scan::bit(b == b'"')
-        + scan::bit(b == b'\r')
-        + scan::bit(b < lowest_plain(k))
-        + scan::bit(highest_plain(k) < b)
-}
-
-// 127 where the two bytes at an offset stand for themselves, else 128.
-fn halt_two(s: &[u8], at: usize, k: Allowed) -> u8
+// Whether the two bytes at an offset surely stand for themselves.
+fn sure_two(s: &[u8], at: usize) -> bool
     requires { ⌜ at + 2 ≤ length (now s) ⌝ }
-    ensures { λ r. ⌜ r ≡ haltIn (plainByte k) at 2 (now (s .entry)) ⌝ }
+    ensures { λ r. ⌜ r ≡ allIn sureByte at 2 (now (s .entry)) ⌝ }
 {
-    scan::larger(halt(s[at], k), halt(s[at + 1], k))
+    is_sure(s[at]) & is_sure(s[at + 1])
 }
 
 // The same of eight bytes.
-fn halt_eight(s: &[u8], at: usize, k: Allowed) -> u8
+fn sure_eight(s: &[u8], at: usize) -> bool
     requires { ⌜ at + 8 ≤ length (now s) ⌝ }
-    ensures { λ r. ⌜ r ≡ haltIn (plainByte k) at 8 (now (s .entry)) ⌝ }
+    ensures { λ r. ⌜ r ≡ allIn sureByte at 8 (now (s .entry)) ⌝ }
 {
-    scan::larger(
-        scan::larger(halt_two(s, at, k), halt_two(s, at + 2, k)),
-        scan::larger(halt_two(s, at + 4, k), halt_two(s, at + 6, k)),
-    )
+    sure_two(s, at) & sure_two(s, at + 2) & (sure_two(s, at + 4) & sure_two(s, at + 6))
+}
+
+// Whether the eight bytes at an offset surely stand for themselves; in a kind without characters above 127 they are ASCII, too.
+fn pass_eight(s: &[u8], at: usize, k: Allowed) -> bool
+    requires { ⌜ at + 8 ≤ length (now s) ⌝ }
+    ensures { λ r. ⌜ r ≡ passIn k at (now (s .entry)) ⌝ }
+{
+    if k.unicode() {
+        return sure_eight(s, at);
+    }
+    scan::eight_ascii(s, at) & sure_eight(s, at)
 }
 
 // Where the run at the front ends. A short text is passed by eight bytes at once, up to its last byte, which most often is the closing quote.
@@ -179,7 +168,7 @@ pub fn front_end(s: &[u8], k: Allowed) -> usize
     let n = s.len() - 1;
     let last = n - 8;
     let mut at = 0;
-    while halt_eight(s, at, k) < 128 {
+    while pass_eight(s, at, k) {
         if at == last {
             if s[n] == b'"' {
                 return n;
@@ -188,5 +177,5 @@ pub fn front_end(s: &[u8], k: Allowed) -> usize
         }
         at = scan::nearer(at, 8, last);
     }
-    block_end(s, at, k)
+    byte_run(s, at, s.len(), k)
 }

@@ -1,3 +1,3 @@
 pub mod Flags
-pub mod Marks
 pub mod Passes
+pub mod Tests

@@ -16,11 +16,12 @@ ghost use lib.Dec.{leb};
 ghost use lib.ListN.{length, getD, drop};
 ghost use Rattle.scan.specs.Run.{run};
 ghost use Rattle.scan.specs.Sets.{only};
+ghost use Rattle.scan.specs.Windows.{allIn};
+ghost use Rattle.escape.specs.Allows.{unicode, allowNul};
 ghost use Rattle.body.specs.Code.{Stopped};
 ghost use Rattle.body.specs.Step.{stop, endOf, nextOf, rawStepOf};
 ghost use Rattle.body.specs.Body.{rawBody, Measures};
 ghost use Rattle.body.specs.Quote.{quoteOf, rawOf};
-ghost use Rattle.plain_run.specs.Windows.{haltBy, haltIn};
 ghost use Rattle.raw.specs.Scan.{rawPlain, beforeQuote, markOf, passes, flags, rawRun};
 
 // What stands at i of a raw body with h hashes.
@@ -197,34 +198,43 @@ fn run_before_quote(s: &[u8], from: usize, k: Allowed) -> usize
     i
 }
 
-// 127 for a byte that may stand before the first quote, 128 for another, as in a quoted body's windows (`plain_run`).
-fn halt(b: u8, k: Allowed) -> u8
-    ensures { λ r. ⌜ r ≡ haltBy (beforeQuote k b) ⌝ }
+// The lowest byte that may stand for itself.
+fn lowest_plain(k: Allowed) -> u8
+    ensures { λ r. ⌜ r ≡ cond (allowNul k) 0 1 ⌝ }
 {
-    127
-        + scan::bit(b == b'"')
-        + scan::bit(b == b'\r')
-        + scan::bit(b < plain_run::lowest_plain(k))
-        + scan::bit(plain_run::highest_plain(k) < b)
+    if k.allow_nul() { 0 } else { 1 }
 }
 
-// 127 where the two bytes at an offset may stand before the first quote, else 128.
-fn halt_two(s: &[u8], at: usize, k: Allowed) -> u8
-    requires { ⌜ at + 2 ≤ length (now s) ⌝ }
-    ensures { λ r. ⌜ r ≡ haltIn (beforeQuote k) at 2 (now (s .entry)) ⌝ }
+// The highest byte that may stand for itself.
+fn highest_plain(k: Allowed) -> u8
+    ensures { λ r. ⌜ r ≡ cond (unicode k) 255 127 ⌝ }
 {
-    scan::larger(halt(s[at], k), halt(s[at + 1], k))
+    if k.unicode() { 255 } else { 127 }
+}
+
+// Whether a byte may stand before the first quote, with every test made in any case (as `is_before_quote`).
+fn may_stand(b: u8, k: Allowed) -> bool
+    ensures { λ r. ⌜ r ≡ beforeQuote k b ⌝ }
+{
+    (b != b'"') & (b != b'\r') & (lowest_plain(k) <= b) & (b <= highest_plain(k))
+}
+
+// Whether the two bytes at an offset may.
+fn stand_two(s: &[u8], at: usize, k: Allowed) -> bool
+    requires { ⌜ at + 2 ≤ length (now s) ⌝ }
+    ensures { λ r. ⌜ r ≡ allIn (beforeQuote k) at 2 (now (s .entry)) ⌝ }
+{
+    may_stand(s[at], k) & may_stand(s[at + 1], k)
 }
 
 // The same of eight bytes.
-fn halt_eight(s: &[u8], at: usize, k: Allowed) -> u8
+fn stand_eight(s: &[u8], at: usize, k: Allowed) -> bool
     requires { ⌜ at + 8 ≤ length (now s) ⌝ }
-    ensures { λ r. ⌜ r ≡ haltIn (beforeQuote k) at 8 (now (s .entry)) ⌝ }
+    ensures { λ r. ⌜ r ≡ allIn (beforeQuote k) at 8 (now (s .entry)) ⌝ }
 {
-    scan::larger(
-        scan::larger(halt_two(s, at, k), halt_two(s, at + 2, k)),
-        scan::larger(halt_two(s, at + 4, k), halt_two(s, at + 6, k)),
-    )
+    stand_two(s, at, k)
+        & stand_two(s, at + 2, k)
+        & (stand_two(s, at + 4, k) & stand_two(s, at + 6, k))
 }
 
 // Where the bytes before the first quote end, by eight at once up to the last byte, which most often is the quote.
@@ -237,7 +247,7 @@ fn quote_end(s: &[u8], k: Allowed) -> usize
     let n = s.len() - 1;
     let last = n - 8;
     let mut at = 0;
-    while halt_eight(s, at, k) < 128 {
+    while stand_eight(s, at, k) {
         if at == last {
             if s[n] == b'"' {
                 return n;

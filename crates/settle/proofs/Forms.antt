@@ -202,3 +202,9 @@ module _ (s : List ℕ) (lit : IntegerLit) where
         → formed 2 (length (integerForm n (drop (lit .«end_main_part») s)) + (length s - lit .«end_main_part»))
         ≡ measureOf s (outcomeOf (reading.Integer lit))
     integer-formed h = sym (measure-formed s (outcomeOf (reading.Integer lit)) integer-bare h)
+
+-- a text that is not read is refused as it is there, and the buffer is as it came
+pub read-refused : (s : List ℕ) {n : ℕ} {p : Place} → readAt 0 s ≡ refused n p
+    → ((have : ℕ) → settleAt s have ≡ withheld n p) × ((buf : List ℕ) → bufferAt s buf ≡ buf)
+unfolding measureAt settleAt bufferAt
+read-refused s e = (λ have. rw e refl, λ buf. rw e refl)

@@ -111,6 +111,18 @@ fn settle_other(text: &[u8], out: &mut [u8], found: Reading) -> Settled
     Settled::Formed(numbers::kind_of(found), n)
 }
 
+// The form of a reading: an integer's, or any other's.
+fn settle_found(text: &[u8], out: &mut [u8], found: Reading) -> Settled
+    requires { ⌜ outcomeOf found ≡ readAt 0 (now text) ⌝ }
+    ensures { λ r. ⌜ settledOf r ≡ settleAt (now (text .entry)) (length (now (out .entry))) ⌝ }
+    ensures { λ r. ⌜ now (out .exit) ≡ bufferAt (now (text .entry)) (now (out .entry)) ⌝ }
+{
+    let Reading::Integer(lit) = found else {
+        return settle_other(text, out, found);
+    };
+    settle_integer(text, out, lit)
+}
+
 // A text's settled form, written to the front of out. A refusal leaves every byte of out as it came.
 pub fn settle(text: &[u8], out: &mut [u8]) -> Settled
     ensures { λ r. ⌜ settledOf r ≡ settleAt (now (text .entry)) (length (now (out .entry))) ⌝ }
@@ -118,8 +130,8 @@ pub fn settle(text: &[u8], out: &mut [u8]) -> Settled
     ensures { λ r. ⌜ now (text .exit) ≡ now (text .entry) ⌝ }
 {
     let found = literal::read(0, text);
-    let Reading::Integer(lit) = found else {
-        return settle_other(text, out, found);
+    let Reading::Refused(kind, span) = found else {
+        return settle_found(text, out, found);
     };
-    settle_integer(text, out, lit)
+    Settled::Refused(kind, span)
 }

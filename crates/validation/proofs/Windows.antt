@@ -1,63 +1,72 @@
--- The highest byte of a part of a text, found by its two halves, of a short text, found by its two ends, and of at most three bytes.
+-- Whether a text is ASCII: a short one by its two ends, one of at most three bytes by each of them, and any by its highest byte.
 -- Assumes nothing.
-use mathlib.Core.Path.{_≡_, refl, _∙_}
-use mathlib.Core.List.{List, [], _∷_, _++_}
-use Prim.Native.Nat.{ℕ, _+_, _-_, _/_, _≤_, _<_, max}
+use mathlib.Core.Path.{_≡_, refl, sym, _∙_}
+use mathlib.Core.Bool.{Bool, true, false, cond, _&&_, and-true, and-false}
+use mathlib.Core.List.{List, [], _∷_}
+use Prim.Native.Nat.{ℕ, suc, _+_, _-_, _/_, _≤_, _<_, max}
 use native.Mathlib.Omega.{arith}
-use lib.Dec.{ltb}
-use lib.ListN.{length, getD, take, drop}
-use lib.Seq.{drop-cons, drop-drop, take-length, take-add}
+use lib.Dec.{ltb, leb, leb·suc-suc}
+use lib.ListN.{length, getD, drop}
+use borrow.Author.Tests.{le-leb, lt-leb, lt-ltb, le-ltb}
+use Rattle.scan.specs.Run.{run}
+use Rattle.scan.specs.Sets.{ascii}
+use Rattle.scan.specs.Windows.{allIn}
+use Rattle.scan.proofs.Cases.{by-lt}
+use Rattle.scan.proofs.Runs.{run-past}
 use Rattle.block_validation.specs.HighBytes.{highestFrom}
-use Rattle.validation.specs.Windows.{highestIn}
+use Rattle.block_validation.proofs.HighBytes.{ascii-low, ascii-high, highest-above}
+use Rattle.validation.specs.Windows.{isAscii}
 
--- a first number is one more to compare
-highest-from : (m : ℕ) (s : List ℕ) → highestFrom m s ≡ max m (highestFrom 0 s)
-highest-from m [] = omega arith
-highest-from m (b ∷ s) = omega (arith, highest-from (max m b) s, highest-from (max 0 b) s)
-
-highest-append : (m : ℕ) (s t : List ℕ) → highestFrom m (s ++ t) ≡ highestFrom (highestFrom m s) t
-highest-append m [] t = refl
-highest-append m (b ∷ s) t = highest-append (max m b) s t
-
-by-halves : (a b : ℕ) (s : List ℕ) → highestFrom 0 (take (a + b) s) ≡ max (highestFrom 0 (take a s)) (highestFrom 0 (take b (drop a s)))
-by-halves a b s = rw (take-add a b s, highest-append 0 (take a s) (take b (drop a s))) (highest-from (highestFrom 0 (take a s)) (take b (drop a s)))
-
--- of a part, its two halves
-pub highest-halves : (at a b : ℕ) (s : List ℕ) → highestIn at (a + b) s ≡ max (highestIn at a s) (highestIn (at + a) b s)
-highest-halves at a b s = by-halves a b (drop at s) ∙ rw (drop-drop a at s)
-
-pub highest-one : (at : ℕ) (s : List ℕ) → at < length s → highestIn at 1 s ≡ getD s at 0
-highest-one at s h = rw (drop-cons s at 0) (omega arith)
-
--- a text of k + r + k bytes is its last r + k and its first k + r
-ends : (s : List ℕ) (k r : ℕ) → length s ≡ k + (r + k) → max (highestIn k (r + k) s) (highestIn 0 (k + r) s) ≡ highestFrom 0 s
-ends s k r e =
-    let whole : highestFrom 0 s ≡ highestIn 0 (k + (r + k)) s = rw (← e, take-length) in
-    omega (arith, whole, by-halves k (r + k) s, by-halves r k (drop k s), by-halves k r s)
-
-highest-ends : (s : List ℕ) (n : ℕ) → n ≤ length s → length s ≤ n + n
-    → max (highestIn (length s - n) n s) (highestIn 0 n s) ≡ highestFrom 0 s
-highest-ends s n h l =
-    let k = length s - n in
-    let r = n - k in
-    let front : k + r ≡ n = omega arith in
-    let back : r + k ≡ n = omega arith in
-    rw (front, back) at (ends s k r (omega arith))
-
--- what was found at the two ends tells whether the text is ASCII
-pub ascii-ends : (s : List ℕ) (n : ℕ) {a b r : ℕ} → n ≤ length s → length s ≤ n + n
-    → a ≡ highestIn (length s - n) n s → b ≡ highestIn 0 n s → r ≡ max a b → ltb r 128 ≡ ltb (highestFrom 0 s) 128
-ascii-ends s n h l back front e = rw (e, back, front, highest-ends s n h l)
+-- what was found at the two ends tells of the whole text
+pub ascii-ends : (s : List ℕ) (n : ℕ) {t u : Bool} → n ≤ length s → length s ≤ n + n
+    → t ≡ allIn ascii (length s - n) n s → u ≡ allIn ascii 0 n s → (t && u) ≡ isAscii s
+unfolding allIn
+ascii-ends s n {t} h l back front = by-lt (run ascii s) n
+    (λ g. rw (front, lt-leb n (run ascii s) g, lt-leb (length s) (run ascii s) (omega arith)) (and-false t))
+    λ g.
+    let m = length s - n in
+    let past = run-past ascii m s (omega arith) in
+    rw (front, le-leb n (run ascii s) g, back) (and-true (leb n (run ascii (drop m s))) ∙ by-lt (run ascii (drop m s)) n
+    (λ o. rw (lt-leb n (run ascii (drop m s)) o, lt-leb (length s) (run ascii s) (omega arith)))
+    (λ o. rw (le-leb n (run ascii (drop m s)) o, le-leb (length s) (run ascii s) (omega arith))))
 
 -- of no byte, and of one to three: the first, the middle and the last
-pub highest-none : (s : List ℕ) → length s ≡ 0 → 0 ≡ highestFrom 0 s
-highest-none [] h = refl
-highest-none (a ∷ s) h = absurd (omega arith)
+pub ascii-none : (s : List ℕ) → length s ≡ 0 → true ≡ isAscii s
+unfolding allIn
+ascii-none [] h = refl
+ascii-none (a ∷ s) h = absurd (omega arith)
 
-pub highest-few : (s : List ℕ) → (length s ≡ 0 → ⊥) → length s < 4
-    → max (max (getD s 0 0) (getD s (length s / 2) 0)) (getD s (length s - 1) 0) ≡ highestFrom 0 s
-highest-few [] h l = absurd (h refl)
-highest-few (a ∷ []) h l = omega arith
-highest-few (a ∷ b ∷ []) h l = omega arith
-highest-few (a ∷ b ∷ c ∷ []) h l = omega arith
-highest-few (a ∷ b ∷ c ∷ d ∷ s) h l = absurd (omega arith)
+one : (t : Bool) → ((t && t) && t) ≡ leb 1 (cond t 1 0)
+one true = refl
+one false = refl
+
+two : (t u : Bool) → ((t && u) && u) ≡ leb 2 (cond t (suc (cond u 1 0)) 0)
+two true true = refl
+two true false = refl
+two false u = refl
+
+three : (t u v : Bool) → ((t && u) && v) ≡ leb 3 (cond t (suc (cond u (suc (cond v 1 0)) 0)) 0)
+three true true true = refl
+three true true false = refl
+three true false v = refl
+three false u v = refl
+
+pub ascii-few : (s : List ℕ) → (length s ≡ 0 → ⊥) → length s < 4
+    → ((ltb (getD s 0 0) 128 && ltb (getD s (length s / 2) 0) 128) && ltb (getD s (length s - 1) 0) 128) ≡ isAscii s
+unfolding allIn ascii
+ascii-few [] h l = absurd (h refl)
+ascii-few (a ∷ []) h l = one (ltb a 128)
+ascii-few (a ∷ b ∷ []) h l = two (ltb a 128) (ltb b 128)
+ascii-few (a ∷ b ∷ c ∷ []) h l = three (ltb a 128) (ltb b 128) (ltb c 128)
+ascii-few (a ∷ b ∷ c ∷ d ∷ s) h l = absurd (omega arith)
+
+-- by the highest byte
+highest-run : (m : ℕ) (s : List ℕ) → m < 128 → ltb (highestFrom m s) 128 ≡ leb (length s) (run ascii s)
+highest-run m [] h = lt-ltb m 128 h
+highest-run m (b ∷ s) h = by-lt b 128
+    (λ g. highest-run (max m b) s (omega arith) ∙ rw (ascii-low b (omega arith), leb·suc-suc (length s) (run ascii s)))
+    (λ g. rw (ascii-high b (omega arith), le-ltb (highestFrom (max m b) s) 128 (omega (arith, highest-above m (b ∷ s) 0 (omega arith)))) (sym (lt-leb (length (b ∷ s)) 0 (omega arith))))
+
+pub ascii-highest : (s : List ℕ) → ltb (highestFrom 0 s) 128 ≡ isAscii s
+unfolding allIn
+ascii-highest s = highest-run 0 s (omega arith)

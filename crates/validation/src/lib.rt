@@ -1,14 +1,14 @@
 // Whether a text is UTF-8: a short one is checked character by character, a long one byte by byte in blocks.
 ghost use mathlib.Core.Path.{_≡_};
 ghost use Prim.Native.Nat.{_+_, _≤_, _<_};
-ghost use lib.Dec.{ltb};
 ghost use lib.ListN.{length, getD, drop};
+ghost use Rattle.scan.specs.Sets.{ascii};
+ghost use Rattle.scan.specs.Windows.{allIn};
 ghost use Rattle.utf8.specs.Decode.{decode, lenOf};
 ghost use Rattle.utf8.specs.Valid.{isUtf8};
 ghost use Rattle.utf8.specs.Cut.{tail};
 ghost use Rattle.validation.specs.Pairs.{PairAt};
-ghost use Rattle.block_validation.specs.HighBytes.{highestFrom};
-ghost use Rattle.validation.specs.Windows.{highestIn, asciiFour};
+ghost use Rattle.validation.specs.Windows.{isAscii, shortAscii, knownAscii};
 
 // Whether a byte 10xxxxxx stands at an offset; behind the end there is none.
 fn has_tail(text: &[u8], at: usize) -> bool
@@ -87,82 +87,72 @@ fn valid_len(text: &[u8], at: usize) -> usize
     four_len(text, at, first, second)
 }
 
-// The higher of the two bytes at an offset.
-fn highest_two(s: &[u8], at: usize) -> u8
-    requires { ⌜ at + 2 ≤ length (now s) ⌝ }
-    ensures { λ r. ⌜ r ≡ highestIn at 2 (now (s .entry)) ⌝ }
-{
-    scan::larger(s[at], s[at + 1])
-}
-
-// The highest of four bytes. Of such pairs of pairs the compiler makes one vector.
-fn highest_four(s: &[u8], at: usize) -> u8
-    requires { ⌜ at + 4 ≤ length (now s) ⌝ }
-    ensures { λ r. ⌜ r ≡ highestIn at 4 (now (s .entry)) ⌝ }
-{
-    scan::larger(highest_two(s, at), highest_two(s, at + 2))
-}
-
-// The same of eight bytes.
-fn highest_eight(s: &[u8], at: usize) -> u8
-    requires { ⌜ at + 8 ≤ length (now s) ⌝ }
-    ensures { λ r. ⌜ r ≡ highestIn at 8 (now (s .entry)) ⌝ }
-{
-    scan::larger(highest_four(s, at), highest_four(s, at + 4))
-}
-
-// The same of sixteen bytes.
-fn highest_sixteen(s: &[u8], at: usize) -> u8
+// Whether the sixteen bytes at an offset are ASCII.
+fn sixteen_ascii(s: &[u8], at: usize) -> bool
     requires { ⌜ at + 16 ≤ length (now s) ⌝ }
-    ensures { λ r. ⌜ r ≡ highestIn at 16 (now (s .entry)) ⌝ }
+    ensures { λ r. ⌜ r ≡ allIn ascii at 16 (now (s .entry)) ⌝ }
 {
-    scan::larger(highest_eight(s, at), highest_eight(s, at + 8))
+    scan::eight_ascii(s, at) & scan::eight_ascii(s, at + 8)
 }
 
-// The highest byte of a text of at most three: its first, its middle and its last are all there are.
-fn highest_few(s: &[u8]) -> u8
+// Whether a text of at most three bytes is ASCII: its first, its middle and its last are all there are.
+fn few_ascii(s: &[u8]) -> bool
     requires { ⌜ length (now s) < 4 ⌝ }
-    ensures { λ r. ⌜ r ≡ highestFrom 0 (now (s .entry)) ⌝ }
+    ensures { λ r. ⌜ r ≡ isAscii (now (s .entry)) ⌝ }
 {
     if s.len() == 0 {
-        return 0;
+        return true;
     }
     let middle = s.len() / 2;
     let last = s.len() - 1;
-    scan::larger(scan::larger(s[0], s[middle]), s[last])
+    (s[0] < 128) & (s[middle] < 128) & (s[last] < 128)
 }
 
 // Whether a text is ASCII. Up to three bytes, the first, the middle and the last are all there are; up to 32 bytes, the first and the last four,
-// eight or sixteen. The last are named first: the other way round the compiler makes two vectors and takes both apart.
+// eight or sixteen.
 fn is_ascii(text: &[u8]) -> bool
-    ensures { λ r. ⌜ r ≡ ltb (highestFrom 0 (now (text .entry))) 128 ⌝ }
+    ensures { λ r. ⌜ r ≡ isAscii (now (text .entry)) ⌝ }
 {
     if text.len() < 4 {
-        return highest_few(text) < 128;
+        return few_ascii(text);
     }
     if text.len() < 8 {
         let last = text.len() - 4;
-        return scan::larger(highest_four(text, last), highest_four(text, 0)) < 128;
+        return scan::four_ascii(text, last) & scan::four_ascii(text, 0);
     }
     if text.len() < 16 {
         let last = text.len() - 8;
-        return scan::larger(highest_eight(text, last), highest_eight(text, 0)) < 128;
+        return scan::eight_ascii(text, last) & scan::eight_ascii(text, 0);
     }
     if text.len() < 33 {
         let last = text.len() - 16;
-        return scan::larger(highest_sixteen(text, last), highest_sixteen(text, 0)) < 128;
+        return sixteen_ascii(text, last) & sixteen_ascii(text, 0);
     }
     block_validation::highest(text) < 128
 }
 
-// Four, where a text has eight bytes or more and its first four are ASCII; else 0.
-fn ascii_four(text: &[u8]) -> usize
-    ensures { λ r. ⌜ r ≡ asciiFour (now (text .entry)) ⌝ }
+// Whether a text has eight to sixteen bytes, all of them ASCII. Its few steps are made part of the caller.
+pub fn is_short_ascii(text: &[u8]) -> bool
+    ensures { λ r. ⌜ r ≡ shortAscii (now (text .entry)) ⌝ }
+{
+    if text.len() < 8 {
+        return false;
+    }
+    if 16 < text.len() {
+        return false;
+    }
+    let last = text.len() - 8;
+    scan::eight_ascii(text, last) & scan::eight_ascii(text, 0)
+}
+
+// How many bytes at the front are known to be ASCII by one test: four, where a text has eight or more, or none.
+fn known_ascii(text: &[u8]) -> usize
+    ensures { λ r. ⌜ r ≡ knownAscii (now (text .entry)) ⌝ }
 {
     if text.len() < 8 {
         return 0;
     }
-    if highest_four(text, 0) < 128 { 4 } else { 0 }
+    if scan::four_ascii(text, 0) { 4 } else { 0 }
 }
 
 // Whether a short text is UTF-8, character by character where it is not ASCII. Where the first four bytes are ASCII, they are not gone through,
@@ -176,11 +166,11 @@ fn short_utf8(text: &[u8]) -> bool
     let mut stop = text.len();
     if 8 <= text.len() {
         let last = text.len() - 8;
-        if highest_eight(text, last) < 128 {
+        if scan::eight_ascii(text, last) {
             stop = last;
         }
     }
-    let mut at = ascii_four(text);
+    let mut at = known_ascii(text);
     while at < stop {
         if text[at] < 0x80 {
             at += 1;

@@ -5,6 +5,7 @@ use Rattle.err.specs.Reading.{outcomeOf}
 use Rattle.err.specs.declared.Reading.the-variants as reading
 use Rattle.literal.specs.Readings.{readAt}
 use Rattle.literal.specs.Values.{checkedValue, valueAt}
+use Rattle.literal.proofs.Early.{unquoted-value}
 use Rattle.literal.proofs.Calls.{no-other-integer, value-read, value-ends, value-given}
 use borrow.Author.Needs.{needs}
 use Rattle.literal.proofs.value.Statement.{statement}
@@ -49,6 +50,12 @@ typed c =
     let a = l .before .before in
     rw (← a .before .before .from-code .ensures, a .found .given .1, ← l .largest .ensures, b .most .given .1)
 
+is-unquoted-requires : tie.Need-is-unquoted-requires
+is-unquoted-requires c κs = search needs
+
+returns-3 : tie.Need-returns-3
+returns-3 c = let b = c .before in (rw (typed (b .before), unquoted-value _ _ (sym (b .is-unquoted .ensures) ∙ c .if1 .taken)), refl)
+
 read-requires : tie.Need-read-requires
 read-requires c κs = search needs
 
@@ -57,7 +64,7 @@ enum-known-reading c = search needs
 
 -- the text reads as this integer
 integer : (c : tie.After-reading) →
-    readAt 2 (c .before .before .before .before .before .before .before .before .before .before .before .before .args .text .now) ≡ outcomeOf (reading.Integer (c .reading .given .0 .0))
+    readAt 2 (c .before .before .before .before .before .before .before .before .before .before .before .before .before .before .args .text .now) ≡ outcomeOf (reading.Integer (c .reading .given .0 .0))
 integer c = sym (c .before .before .read .ensures .0) ∙ ap outcomeOf (c .reading .given .1)
 
 value-of-requires : tie.Need-value-of-requires
@@ -66,18 +73,18 @@ value-of-requires c κs = value-ends 0 _ (integer (c .before))
 enum-known-reading-2 : tie.Need-enum-known-reading-2
 enum-known-reading-2 c = search needs
 
-returns-3 : tie.Need-returns-3
-returns-3 c =
-    let r = c .before .before in
-    (rw (typed (r .before .before .before)) (c .value-of .ensures ∙ value-given _ _ (integer r)), refl)
-
 returns-4 : tie.Need-returns-4
 returns-4 c =
-    let r = c .before .before .before in
-    (rw (typed (r .before), value-read, ← r .read .ensures .0, c .before .reading2 .given .1), refl)
+    let r = c .before .before in
+    (rw (typed (r .before .before .before .before .before)) (c .value-of .ensures ∙ value-given _ _ (integer r)), refl)
 
 returns-5 : tie.Need-returns-5
-returns-5 c = absurd (no-other-integer _ (c .before .read .result) (c .before .read .ensures .0) (c .match3 .keys3))
+returns-5 c =
+    let r = c .before .before .before in
+    (rw (typed (r .before .before .before), value-read, ← r .read .ensures .0, c .before .reading2 .given .1), refl)
+
+returns-6 : tie.Need-returns-6
+returns-6 c = absurd (no-other-integer _ (c .before .read .result) (c .before .read .ensures .0) (c .match3 .keys3))
 
 pub value-spec : {M : Type 1} → statement M
 value-spec =
@@ -91,10 +98,12 @@ value-spec =
     enum-known-most
     enum-told-2
     returns-2
+    is-unquoted-requires
+    returns-3
     read-requires
     enum-known-reading
     value-of-requires
     enum-known-reading-2
-    returns-3
     returns-4
-    returns-5)
+    returns-5
+    returns-6)

@@ -6,9 +6,10 @@ use Prim.Native.Nat.{_+_, _-_, _≤_}
 use native.Mathlib.Omega.{arith}
 use lib.ListN.{length}
 use Rattle.scan.specs.Run.{run}
-use Rattle.scan.proofs.Runs.{run-past}
+use Rattle.scan.proofs.Runs.{run-le, run-past}
+use Rattle.scan.proofs.Windows.{all-last}
 use Rattle.plain_run.specs.Plain.{plainByte}
-use Rattle.plain_run.proofs.Windows.{halt-passed, halt-last}
+use Rattle.plain_run.proofs.Windows.{eight-passed}
 use Rattle.plain_run.proofs.front_end.Statement.{statement}
 use Rattle.plain_run.proofs.front_end.Tie as tie
 
@@ -26,7 +27,7 @@ eight : (t : tie.Then3 Inv-loop μ-loop) →
 eight t =
     let l = t .before .before in
     let a = l .before .before .before .before .args in
-    halt-passed (plainByte (a .k)) (a .s .now) (l .loop .at) 8 (l .loop .inv .1) (omega (arith, t .before .halt-eight .ensures, t .if3 .taken))
+    eight-passed (a .k) (a .s .now) (l .loop .at) (omega arith) (l .loop .inv .1) (sym (t .before .pass-eight .ensures) ∙ t .if3 .taken)
 
 block-end-requires : tie.Need-block-end-requires Inv-loop μ-loop
 block-end-requires c κs = search needs
@@ -49,8 +50,8 @@ sub-last c = search needs
 loop-holds : tie.Need-loop-holds Inv-loop μ-loop
 loop-holds c = search needs
 
-halt-eight-requires : tie.Need-halt-eight-requires Inv-loop μ-loop
-halt-eight-requires c κs = search needs
+pass-eight-requires : tie.Need-pass-eight-requires Inv-loop μ-loop
+pass-eight-requires c κs = search needs
 
 shared-slice-read-if5 : tie.Need-shared-slice-read-if5 Inv-loop μ-loop
 shared-slice-read-if5 c = search needs
@@ -60,7 +61,7 @@ unfolding plainByte
 returns-3 c =
     let t = c .before .before .before in
     let a = t .before .before .before .before .before .before .args in
-    halt-last (plainByte (a .k)) (a .s .now) (length (a .s .now) - 1) (omega arith) (omega (arith, eight t, c .before .before .if4 .taken)) (rw (c .if5 .taken))
+    all-last (plainByte (a .k)) (a .s .now) (length (a .s .now) - 1) (omega arith) (omega (arith, eight t, c .before .before .if4 .taken)) (rw (c .if5 .taken))
 
 block-end-requires-3 : tie.Need-block-end-requires-3 Inv-loop μ-loop
 block-end-requires-3 c κs = search needs
@@ -80,11 +81,15 @@ loop-less c = search needs
 loop-again : tie.Need-loop-again Inv-loop μ-loop
 loop-again c = (omega (arith, c .nearer .ensures), omega (arith, c .nearer .ensures, eight (c .before .before)))
 
-block-end-requires-4 : tie.Need-block-end-requires-4 Inv-loop μ-loop
-block-end-requires-4 c κs = search needs
+byte-run-requires : tie.Need-byte-run-requires Inv-loop μ-loop
+byte-run-requires c κs = search needs
 
 returns-5 : tie.Need-returns-5 Inv-loop μ-loop
-returns-5 c = c .block-end4 .ensures ∙ sym (run-past _ _ _ (c .before .before .before .loop .inv .1))
+returns-5 c =
+    let l = c .before .before .before in
+    let a = l .before .before .before .before .args in
+    let r = run-past (plainByte (a .k)) (l .loop .at) (a .s .now) (l .loop .inv .1) in
+    omega (arith, c .byte-run .ensures, run-le (plainByte (a .k)) (a .s .now))
 
 pub front-end-spec : {M : Type 1} → statement M
 front-end-spec =
@@ -99,7 +104,7 @@ front-end-spec =
     sub-n
     sub-last
     loop-holds
-    halt-eight-requires
+    pass-eight-requires
     shared-slice-read-if5
     returns-3
     block-end-requires-3
@@ -107,5 +112,5 @@ front-end-spec =
     nearer-requires
     loop-less
     loop-again
-    block-end-requires-4
+    byte-run-requires
     returns-5)

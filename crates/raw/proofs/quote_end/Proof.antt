@@ -7,7 +7,7 @@ use native.Mathlib.Omega.{arith}
 use lib.ListN.{length}
 use Rattle.scan.specs.Run.{run}
 use Rattle.scan.proofs.Runs.{run-past}
-use Rattle.plain_run.proofs.Windows.{halt-passed, halt-last}
+use Rattle.scan.proofs.Windows.{all-passed, all-last}
 use Rattle.raw.specs.Scan.{beforeQuote}
 use Rattle.raw.proofs.quote_end.Statement.{statement}
 use Rattle.raw.proofs.quote_end.Tie as tie
@@ -26,7 +26,7 @@ eight : (t : tie.Then2 Inv-loop μ-loop) →
 eight t =
     let l = t .before .before in
     let a = l .before .before .before .args in
-    halt-passed (beforeQuote (a .k)) (a .s .now) (l .loop .at) 8 (l .loop .inv .1) (omega (arith, t .before .halt-eight .ensures, t .if2 .taken))
+    all-passed (beforeQuote (a .k)) (a .s .now) (l .loop .at) 8 (l .loop .inv .1) (sym (t .before .stand-eight .ensures) ∙ t .if2 .taken)
 
 run-before-quote-requires : tie.Need-run-before-quote-requires Inv-loop μ-loop
 run-before-quote-requires c κs = search needs
@@ -43,8 +43,8 @@ sub-last c = search needs
 loop-holds : tie.Need-loop-holds Inv-loop μ-loop
 loop-holds c = search needs
 
-halt-eight-requires : tie.Need-halt-eight-requires Inv-loop μ-loop
-halt-eight-requires c κs = search needs
+stand-eight-requires : tie.Need-stand-eight-requires Inv-loop μ-loop
+stand-eight-requires c κs = search needs
 
 shared-slice-read-if4 : tie.Need-shared-slice-read-if4 Inv-loop μ-loop
 shared-slice-read-if4 c = search needs
@@ -54,7 +54,7 @@ unfolding beforeQuote
 returns-2 c =
     let t = c .before .before .before in
     let a = t .before .before .before .before .before .args in
-    halt-last (beforeQuote (a .k)) (a .s .now) (length (a .s .now) - 1) (omega arith) (omega (arith, eight t, c .before .before .if3 .taken)) (rw (c .if4 .taken))
+    all-last (beforeQuote (a .k)) (a .s .now) (length (a .s .now) - 1) (omega arith) (omega (arith, eight t, c .before .before .if3 .taken)) (rw (c .if4 .taken))
 
 run-before-quote-requires-2 : tie.Need-run-before-quote-requires-2 Inv-loop μ-loop
 run-before-quote-requires-2 c κs = search needs
@@ -90,7 +90,7 @@ quote-end-spec =
     sub-n
     sub-last
     loop-holds
-    halt-eight-requires
+    stand-eight-requires
     shared-slice-read-if4
     returns-2
     run-before-quote-requires-2

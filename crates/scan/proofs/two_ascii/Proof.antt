@@ -1,6 +1,5 @@
 -- `scan::two_ascii` meets its contract.
 -- Assumes nothing.
-use native.Mathlib.Omega.{arith}
 use borrow.Author.Needs.{needs}
 use Rattle.scan.specs.Sets.{ascii}
 use Rattle.scan.proofs.Windows.{all-pair}

@@ -1,17 +1,9 @@
 -- `settle::settle` meets its contract.
 -- Assumes nothing.
 use borrow.Author.Needs.{needs}
-use denote.Enum.Declared.{tagOf}
-use mathlib.Core.List.{List, [], _∷_}
-use mathlib.Core.Path.{_≡_, refl, sym, ap, _∙_}
-use Prim.Native.Nat.{ℕ}
-use native.Mathlib.Omega.{arith}
-use types.Run.{OneOf, miss}
+use mathlib.Core.Path.{refl, sym, ap, _∙_}
 use Rattle.err.specs.Reading.{outcomeOf}
-use Rattle.err.specs.declared.Reading.{Reading}
-use Rattle.err.specs.declared.Reading.the-variants as reading
-use Rattle.err.proofs.Reading.{the-type}
-use Rattle.numbers.specs.Numbers.{kindIn}
+use Rattle.settle.proofs.Forms.{read-refused}
 use Rattle.settle.proofs.settle.Statement.{statement}
 use Rattle.settle.proofs.settle.Tie as tie
 
@@ -21,48 +13,23 @@ read-requires c κs = search needs
 enum-known-found : tie.Need-enum-known-found
 enum-known-found c = search needs
 
--- the variants that are not integers, by their place among all
-abbrev others : List ℕ
-others = 0 ∷ 1 ∷ 3 ∷ 4 ∷ 5 ∷ 6 ∷ 7 ∷ 8 ∷ []
-
-other : (found : Reading) → OneOf others (tagOf the-type found) → kindIn (outcomeOf found) ≡ 2 → ⊥
-other (reading.Integer lit) o e = miss others _ tt o
-other (reading.Refused k p) o e = omega arith
-other (reading.Bool lit) o e = omega arith
-other (reading.Float lit) o e = omega arith
-other (reading.Char lit) o e = omega arith
-other (reading.Byte lit) o e = omega arith
-other (reading.String lit) o e = omega arith
-other (reading.ByteString lit) o e = omega arith
-other (reading.CString lit) o e = omega arith
-
-settle-other-requires : tie.Need-settle-other-requires
-settle-other-requires c κs = (c .before .before .read .ensures .0, other (c .before .before .read .result) (c .before .match .keys2))
+settle-found-requires : tie.Need-settle-found-requires
+settle-found-requires c κs = search needs
 
 same-length : tie.Need-same-length
 same-length c = search needs
 
 returns : tie.Need-returns
-returns c = let e = c .before .before .settle-other .ensures in (e .0, (e .1, refl))
-
-settle-integer-requires : tie.Need-settle-integer-requires
-settle-integer-requires c κs = let f = c .before .before in sym (ap outcomeOf (f .found .given .1)) ∙ f .before .before .read .ensures .0
-
-same-length-2 : tie.Need-same-length-2
-same-length-2 c = search needs
+returns c = search needs
 
 returns-2 : tie.Need-returns-2
-returns-2 c = let e = c .before .before .settle-integer .ensures in (e .0, (e .1, refl))
+returns-2 c =
+    let f = c .before in
+    let b = f .before .before in
+    let e = read-refused (b .before .before .before .args .text .now) (sym (b .read .ensures .0) ∙ ap outcomeOf (f .found .given .1)) in
+    (sym (e .0 _), (sym (e .1 _), refl))
 
 pub settle-spec : {M : Type 1} → statement M
 settle-spec =
     tie.close
-    (tie.spec
-    read-requires
-    enum-known-found
-    settle-other-requires
-    same-length
-    returns
-    settle-integer-requires
-    same-length-2
-    returns-2)
+    (tie.spec read-requires enum-known-found settle-found-requires same-length returns returns-2)

@@ -6,13 +6,10 @@ use Prim.Native.Nat.{_+_, _-_, _≤_, _<_}
 use native.Mathlib.Omega.{arith}
 use lib.ListN.{length, drop}
 use borrow.Author.Needs.{needs}
-use borrow.Author.Tests.{ltb-true}
 use Rattle.utf8.specs.Valid.{isUtf8}
-use Rattle.utf8.proofs.Valid.{isUtf8-char, isUtf8-bad, isUtf8-ascii}
-use Rattle.block_validation.specs.HighBytes.{highestFrom}
-use Rattle.block_validation.proofs.HighBytes.{highest-above}
+use Rattle.utf8.proofs.Valid.{isUtf8-char, isUtf8-bad}
 use Rattle.block_validation.proofs.Ranges.{len-one}
-use Rattle.validation.proofs.Ends.{AsciiFrom, from-end, from-last, from-utf8, ascii-four}
+use Rattle.validation.proofs.Ends.{AsciiFrom, from-end, from-last, from-utf8, known-utf8, ascii-utf8}
 use Rattle.validation.proofs.short_utf8.Statement.{statement}
 use Rattle.validation.proofs.short_utf8.Tie as tie
 
@@ -27,30 +24,28 @@ is-ascii-requires : tie.Need-is-ascii-requires Inv-loop μ-loop
 is-ascii-requires c κs = search needs
 
 returns : tie.Need-returns Inv-loop μ-loop
-returns c =
-    let t = c .before .before .before .args .text .now in
-    isUtf8-ascii t (λ k h. omega (arith, ltb-true (highestFrom 0 t) 128 (sym (c .before .is-ascii .ensures) ∙ c .if1 .taken), highest-above 0 t k h))
+returns c = ascii-utf8 (c .before .before .before .args .text .now) (sym (c .before .is-ascii .ensures) ∙ c .if1 .taken)
 
 sub-last : tie.Need-sub-last Inv-loop μ-loop
 sub-last c = search needs
 
-highest-eight-requires : tie.Need-highest-eight-requires Inv-loop μ-loop
-highest-eight-requires c κs = search needs
+eight-ascii-requires : tie.Need-eight-ascii-requires Inv-loop μ-loop
+eight-ascii-requires c κs = search needs
 
 -- what the loop does not go through is ASCII
 behind : (c : tie.Joined2 Inv-loop μ-loop) → AsciiFrom (c .before .before .before .before .args .text .now) (c .if2 .stop)
 behind c =
     let t = c .before .before .before .before .args .text .now in
     ⊎-elim
-    (λ w. rw (w .3) (from-last t 8 (w .0 .taken) (omega (arith, w .1 .ensures, w .2 .taken))))
+    (λ w. rw (w .3) (from-last t 8 (w .0 .taken) (sym (w .1 .ensures) ∙ w .2 .taken)))
     (⊎-elim (λ w. rw (w .3) (from-end t)) (λ w. rw (w .1) (from-end t)))
     (c .if2 .came)
 
-ascii-four-requires : tie.Need-ascii-four-requires Inv-loop μ-loop
-ascii-four-requires c κs = search needs
+known-ascii-requires : tie.Need-known-ascii-requires Inv-loop μ-loop
+known-ascii-requires c κs = search needs
 
 loop-holds : tie.Need-loop-holds Inv-loop μ-loop
-loop-holds c = (behind (c .before) .0, rw (c .ascii-four .ensures) (ascii-four _))
+loop-holds c = (behind (c .before) .0, rw (c .known-ascii .ensures) (known-utf8 _))
 
 shared-slice-read-if4 : tie.Need-shared-slice-read-if4 Inv-loop μ-loop
 shared-slice-read-if4 c = search needs
@@ -107,8 +102,8 @@ short-utf8-spec =
     is-ascii-requires
     returns
     sub-last
-    highest-eight-requires
-    ascii-four-requires
+    eight-ascii-requires
+    known-ascii-requires
     loop-holds
     shared-slice-read-if4
     add-at
