@@ -9,11 +9,14 @@ use escape::Escape;
 use escape::Unescaped;
 use parse::ClassSet;
 ghost use mathlib.Core.Path.{_≡_};
+ghost use mathlib.Core.Bool.{_&&_};
 ghost use Prim.Native.Nat.{_+_, _-_, _≤_, _<_};
+ghost use lib.Dec.{leb};
 ghost use lib.ListN.{length, getD, drop};
 ghost use Rattle.err.specs.Reading.{hashesOf};
 ghost use Rattle.utf8.specs.Cut.{lastLen};
 ghost use Rattle.scan.specs.Run.{run};
+ghost use Rattle.escape.specs.Escape.{unknownLetter};
 ghost use Rattle.plain_run.specs.Plain.{plainByte};
 ghost use Rattle.body.specs.Code.{backslashCode, Stopped};
 ghost use Rattle.body.specs.Step.{stop, endOf, nextOf, lineBreakOf, backslashOf, plainOf, stepOf};
@@ -91,6 +94,17 @@ fn line_break(s: &[u8]) -> Step
     Step::Piece(Unescaped::Nothing, n + 2)
 }
 
+// Whether the escape at the front is refused for its letter, which most refused escapes are.
+fn has_unknown(s: &[u8], end: usize) -> bool
+    requires { ⌜ end ≤ length (now s) ⌝ }
+    ensures { λ r. ⌜ r ≡ (leb 2 end && unknownLetter (getD (now (s .entry)) 1 0)) ⌝ }
+{
+    if end < 2 {
+        return false;
+    }
+    escape::is_unknown(s[1])
+}
+
 // A backslash and what follows. An escape never sees the text's last character, which has `last` bytes.
 fn backslash(s: &[u8], last: usize, k: Allowed) -> Step
     requires { ⌜ (1 ≤ length (now s)) × (last ≡ lastLen (now s)) ⌝ }
@@ -100,6 +114,9 @@ fn backslash(s: &[u8], last: usize, k: Allowed) -> Step
         return line_break(s);
     }
     let end = s.len() - last;
+    if has_unknown(s, end) {
+        return Step::Stop(Ending::Bad(ParseErrorKind::UnknownEscape, Span::Between(0, 2)));
+    }
     let e = escape::unescape(&s[..end], k);
     match e {
         Escape::Value(u, n) => Step::Piece(u, n),

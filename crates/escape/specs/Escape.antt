@@ -58,6 +58,10 @@ letterOf b =
     (cond (eqb b 116) 9
     (cond (eqb b 92) 92 0)))))
 
+-- a byte behind a backslash for which `match first` has no arm but the last (law `unknown-escape`): no letter, and not `0`, `x` or `u`
+unfoldable pub unknownLetter : ℕ → Bool
+unknownLetter b = not (eqb b 48 || (eqb b 120 || eqb b 117)) && eqb (letterOf b) 0
+
 -- ---- `\x`
 
 -- a value above 7F where the kind has no byte escapes is 11, then 0 where it has no NUL is 35

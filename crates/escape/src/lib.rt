@@ -9,7 +9,7 @@ ghost use Prim.Native.Nat.{_+_, _≤_, _<_};
 ghost use lib.ListN.{length};
 ghost use Rattle.buffer.specs.Buffer.{Wrote};
 ghost use Rattle.escape.specs.Allows.{unicode, byteEscapes, allowNul};
-ghost use Rattle.escape.specs.Escape.{bytesOf, Valid, escapedOf, letterOf, xByte, xEscape, hexOf, hexFrom, isScalar, uScalar, badStart, uInner, uEscape, escapeOf};
+ghost use Rattle.escape.specs.Escape.{bytesOf, Valid, escapedOf, letterOf, unknownLetter, xByte, xEscape, hexOf, hexFrom, isScalar, uScalar, badStart, uInner, uEscape, escapeOf};
 
 // What a kind of literal allows: as text (chars and strings), as bytes, as a C string.
 pub enum Allowed {
@@ -98,6 +98,16 @@ pub fn letter(b: u8) -> u8
         b't' => b'\t',
         b'\\' => b'\\',
         _ => 0,
+    }
+}
+
+// Whether no escape has such a byte behind its backslash.
+pub fn is_unknown(b: u8) -> bool
+    ensures { λ r. ⌜ r ≡ unknownLetter b ⌝ }
+{
+    match b {
+        b'0' | b'x' | b'u' => false,
+        _ => letter(b) == 0,
     }
 }
 
