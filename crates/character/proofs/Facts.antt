@@ -24,10 +24,10 @@ use Rattle.utf8.proofs.Text.{utf8-ascii}
 use Rattle.utf8.proofs.Valid.{isUtf8-right}
 use Rattle.single_quote.specs.Content.{quoteAt}
 use Rattle.character.specs.Single.{closedAt, firstAt, singleAt, charRead}
-use Rattle.character.specs.Alone.{plainFirst, enclosed, charIn, quoteAlone, pairAlone, toldBy, aloneIn}
+use Rattle.character.specs.Alone.{plainFirst, enclosed, quoteAlone, pairAlone, toldBy, aloneIn}
 use Rattle.character.specs.declared.Told.{Told}
 use Rattle.character.specs.declared.Told.the-variants as told
-use Rattle.character.proofs.OneChar.{first-tests, quotes, alone-text, alone-length, alone-utf8, alone-read}
+use Rattle.character.proofs.OneChar.{first-tests, quotes, charIn, alone-text, alone-length, alone-utf8, alone-read}
 
 -- a text that starts with a quote, is UTF-8 of few bytes, and is answered so
 pub record Fine (s : List ℕ) (o : Outcome) : Type 0 where

@@ -2,7 +2,7 @@
 -- Assumes nothing.
 use mathlib.Core.Path.{_≡_, refl, sym, ap, _∙_, subst}
 use mathlib.Core.Logic.{inl}
-use mathlib.Core.Bool.{true, false, not, _&&_, and-eq-true-iff}
+use mathlib.Core.Bool.{true, false, cond, not, _&&_, and-eq-true-iff}
 use mathlib.Core.List.{List, [], _∷_, _++_}
 use Prim.Native.Nat.{ℕ, suc, _+_, _-_, _≤_, _<_}
 use native.Mathlib.Omega.{arith}
@@ -16,6 +16,7 @@ use Rattle.suffix.specs.Suffix.{suffixFault}
 use Rattle.utf8.specs.Utf8.{Scalar, encode, Utf8}
 use Rattle.utf8.specs.Decode.{onlyChar}
 use Rattle.utf8.specs.Valid.{isUtf8}
+use Rattle.utf8.specs.declared.Decoded.{Decoded}
 use Rattle.utf8.specs.declared.Decoded.the-variants as decoded
 use Rattle.utf8.proofs.Laws.{encode-length}
 use Rattle.utf8.proofs.Only.{char-if, only-found}
@@ -24,7 +25,7 @@ use Rattle.utf8.proofs.Valid.{isUtf8-right}
 use Rattle.single_quote.specs.Content.{special}
 use Rattle.character.specs.Single.{charRead}
 use Rattle.character.specs.Parts.{Plain, char}
-use Rattle.character.specs.Alone.{plainFirst, enclosed, charIn}
+use Rattle.character.specs.Alone.{plainFirst, enclosed}
 use Rattle.character.proofs.Exact.{first-byte, plain-char, char-complete}
 
 -- the tests of the first byte between the quotes
@@ -51,6 +52,10 @@ quotes s e =
     let p = and-eq-true-iff (leb 3 (length s)) (eqb (getD s 0 0) 39 && eqb (getD s (length s - 1) 0) 39) .0 e in
     let q = and-eq-true-iff (eqb (getD s 0 0) 39) (eqb (getD s (length s - 1) 0) 39) .0 (p .1) in
     (leb-true 3 (length s) (p .0), eqb-true (getD s 0 0) 39 (q .0), eqb-true (getD s (length s - 1) 0) 39 (q .1))
+
+-- the character between the quotes
+unfoldable pub charIn : List ℕ → Decoded
+charIn s = cond (enclosed s && plainFirst (getD s 1 0)) (onlyChar (take (length s - 2) (drop 1 s))) decoded.Bad
 
 module _ (s : List ℕ) (c n : ℕ) (e : charIn s ≡ decoded.Char c n) where
   tests : (enclosed s ≡ true) × (plainFirst (getD s 1 0) ≡ true) × Scalar c × (take (length s - 2) (drop 1 s) ≡ encode c)

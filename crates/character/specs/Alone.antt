@@ -7,14 +7,22 @@ use lib.Dec.{eqb, leb}
 use lib.ListN.{length, getD, take, drop}
 use Rattle.utf8.specs.Decode.{onlyChar}
 use Rattle.utf8.specs.declared.Decoded.{Decoded}
-use Rattle.utf8.specs.declared.Decoded.the-variants.{Bad}
 use Rattle.utf8.specs.declared.Decoded.the-variants as decoded
+use Rattle.err.specs.Outcome.{Outcome, refused, accepted, value}
+use Rattle.err.specs.Numbers.{numberOf}
+use Rattle.err.specs.Reading.{placeOf}
 use Rattle.err.specs.declared.ParseErrorKind.the-variants.{UnescapedSingleQuote, OverlongCharLiteral}
 use Rattle.err.specs.declared.Span.the-variants.{Nowhere, Between}
 use Rattle.single_quote.specs.Content.{special}
 use Rattle.character.specs.declared.Told.{Told}
 use Rattle.character.specs.declared.Told.the-variants.{Refused, Unknown}
 use Rattle.character.specs.declared.Told.the-variants as told
+
+-- 01's number and values for each case of the answer, of a text of `len` bytes; where nothing is told, what else is answered
+abbrev pub toldOf : ℕ → Told → Outcome → Outcome
+toldOf len (told.Char c) other = accepted 4 len (value c)
+toldOf len (told.Refused k p) other = refused (numberOf k) (placeOf p)
+toldOf len told.Unknown other = other
 
 -- a first byte between the quotes that is no quote, no backslash, and not LF, tab or CR (`firstAt`)
 unfoldable pub plainFirst : ℕ → Bool
@@ -24,15 +32,11 @@ plainFirst b = not (eqb b 39) && (not (eqb b 92) && not (special b))
 unfoldable pub enclosed : List ℕ → Bool
 enclosed s = leb 3 (length s) && (eqb (getD s 0 0) 39 && eqb (getD s (length s - 1) 0) 39)
 
--- the character of a text that is a quote, a character that stands for itself, and a quote
-unfoldable pub charIn : List ℕ → Decoded
-charIn s = cond (enclosed s && plainFirst (getD s 1 0)) (onlyChar (take (length s - 2) (drop 1 s))) Bad
-
 -- `'''`: 01's row 26
 unfoldable pub quoteAlone : List ℕ → Told
 quoteAlone s = cond (eqb (length s) 3 && eqb (getD s 1 0) 39) (Refused UnescapedSingleQuote (Between 1 2)) Unknown
 
--- two ASCII characters between quotes, of which the second is no quote, as in 01's row 20
+-- two ASCII characters between quotes, of which the second is no quote, as in 01's row 20; where the first stands for itself (`aloneIn`)
 unfoldable pub pairAlone : List ℕ → Told
 pairAlone s =
     cond (eqb (length s) 4 && (leb (getD s 1 0) 127 && (leb (getD s 2 0) 127 && not (eqb (getD s 2 0) 39)))) (Refused OverlongCharLiteral Nowhere)

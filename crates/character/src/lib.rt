@@ -22,7 +22,7 @@ pub enum Single {
     Refused(ParseErrorKind, Span),
 }
 
-// What a text's first bytes tell of its reading, before it is checked: a char and nothing else, a refusal, or nothing.
+// What the bytes of a short text tell of its reading, before it is checked: a char without a suffix, a refusal, or nothing.
 pub enum Told {
     Char(u32),
     Refused(ParseErrorKind, Span),

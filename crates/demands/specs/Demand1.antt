@@ -178,8 +178,8 @@ pub record SettleAnswers : Type 0 where
   -- the measure of a form is its settling into a buffer that is long enough for every form
   pub measured : (s : List ℕ) → measureAt s ≡ settleAt s 65536
 
--- the entries for C say the same in numbers. A reading's first number is its kind, or 0 where it is refused; a length is at most 65,536, a
--- refusal above 100,000; a value that is refused is left as it was
+-- the entries for C say the same in numbers. A reading's first number is its kind, or 0 where it is refused; a length, which is at most 65,536
+-- (`DecodeAnswers`, `SettleAnswers`), stands for itself, a refusal is 100,000 and its number; a value that is refused is left as it was
 pub record NumberAnswers : Type 0 where
   pub reading : (code : ℕ) (s : List ℕ) {k e : ℕ} {vs : Values} → readAt code s ≡ accepted k e vs
       → readingNumbers (readAt code s) ≡ k ∷ e ∷ valueNumbers vs

@@ -83,7 +83,7 @@ fn is_nothing(entry: u64, text: &[u8]) -> bool
 }
 
 // The reading of a text by entry code, as five numbers: kind, start of suffix and values; or 0, the refusal number and the span. A bool by entry
-// 0 or 1, no bytes by entry 0, and what a text's first bytes tell by entry 0 or 4 pay for no call of `read`.
+// 0 or 1, no bytes by entry 0, and what the bytes of a short text tell by entry 0 or 4 pay for no call of `read`.
 #[no_mangle]
 pub extern "C" fn keybasket_read(entry: u64, text: &[u8], answer: &mut [u64; 5])
     ensures { λ r. ⌜ now (answer .exit) ≡ readingNumbers (readAt entry (now (text .entry))) ⌝ }

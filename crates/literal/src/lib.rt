@@ -21,7 +21,7 @@ ghost use Rattle.integer_value.specs.Value.{valuedOf};
 ghost use Rattle.err.specs.Reading.{outcomeOf};
 ghost use Rattle.string.specs.Decode.{decodedOf};
 ghost use Rattle.literal.specs.Readings.{quoteIn, stringKindIn, entryRead, boolAt, readAt};
-ghost use Rattle.literal.specs.Early.{startsNothing, unquoted, toldAt};
+ghost use Rattle.literal.specs.Early.{startsNothing, noLiteral, toldAt};
 ghost use Rattle.literal.specs.Decodes.{kindCoded, decodeAt, bufferAt};
 ghost use Rattle.literal.specs.Values.{valueAt};
 ghost use Rattle.literal.specs.Suffixes.{integerFromSuffix, floatFromSuffix};
@@ -92,7 +92,7 @@ pub fn is_bool_at(code: u64, text: &[u8]) -> bool
     boolean::is_bool(text)
 }
 
-// Whether no literal starts with a byte: one from `:` to `a`. Names most often start with a capital letter.
+// Whether a byte is one from `:` to `a`: no literal starts with one of these.
 fn starts_nothing(b: u8) -> bool
     ensures { λ r. ⌜ r ≡ startsNothing b ⌝ }
 {
@@ -102,9 +102,9 @@ fn starts_nothing(b: u8) -> bool
     b <= b'a'
 }
 
-// Whether a text is a short name without quotes, of nine to seventeen ASCII bytes.
-fn is_unquoted(text: &[u8]) -> bool
-    ensures { λ r. ⌜ r ≡ unquoted (now (text .entry)) ⌝ }
+// Whether a text has nine to seventeen ASCII bytes, of which the first starts no literal.
+fn is_no_literal(text: &[u8]) -> bool
+    ensures { λ r. ⌜ r ≡ noLiteral (now (text .entry)) ⌝ }
 {
     if text.len() < 9 {
         return false;
@@ -115,8 +115,8 @@ fn is_unquoted(text: &[u8]) -> bool
     validation::is_short_ascii(&text[1..])
 }
 
-// What the first bytes of a text tell of its reading by entry 0 or 4, so that it pays for no check: of a few bytes between two quotes, and by
-// entry 0 of a short name without quotes. For `desk`, no call of a user's.
+// What the bytes of a short text tell of its reading by entry 0 or 4, so that it pays for no check: of a few bytes between two quotes, and by
+// entry 0 of ASCII bytes that start as no literal does. For `desk`, no call of a user's.
 pub fn told_at(code: u64, text: &[u8]) -> Told
     ensures { λ r. ⌜ r ≡ toldAt code (now (text .entry)) ⌝ }
 {
@@ -130,7 +130,7 @@ pub fn told_at(code: u64, text: &[u8]) -> Told
     if text[0] == b'\'' {
         return character::alone(text);
     }
-    // not `is_unquoted`: most texts are told apart by their first byte
+    // not `is_no_literal`: most texts are told apart by their first byte
     if !starts_nothing(text[0]) {
         return Told::Unknown;
     }
@@ -171,7 +171,7 @@ pub fn value(code: u64, text: &[u8]) -> IntegerValue
     let Largest::Value(largest) = most else {
         return IntegerValue::Refused(ParseErrorKind::BadCode, Span::Nowhere);
     };
-    if is_unquoted(text) {
+    if is_no_literal(text) {
         return IntegerValue::Refused(ParseErrorKind::DoesNotStartWithDigit, Span::Between(0, 1));
     }
     let reading = read(2, text);

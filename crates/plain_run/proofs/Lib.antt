@@ -1,2 +1,2 @@
 pub mod Blocks
-pub mod Windows
+pub mod Sure

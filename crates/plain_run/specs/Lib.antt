@@ -1,2 +1,2 @@
 pub mod Plain
-pub mod Windows
+pub mod Sure

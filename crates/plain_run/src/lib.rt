@@ -7,7 +7,7 @@ ghost use lib.ListN.{length, drop};
 ghost use Rattle.scan.specs.Run.{run};
 ghost use Rattle.scan.specs.Windows.{allIn};
 ghost use Rattle.plain_run.specs.Plain.{plainByte};
-ghost use Rattle.plain_run.specs.Windows.{sureByte, passIn};
+ghost use Rattle.plain_run.specs.Sure.{sureByte, passIn};
 
 // Whether a byte stands for itself.
 pub fn is_plain(b: u8, k: Allowed) -> bool

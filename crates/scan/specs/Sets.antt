@@ -1,4 +1,4 @@
--- Sets of bytes that are told by one byte.
+-- Sets of bytes: all but one, one, and the ASCII bytes.
 -- Assumes nothing.
 use Prim.Native.Nat.{ℕ}
 use mathlib.Core.Bool.{Bool, not}

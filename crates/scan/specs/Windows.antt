@@ -7,6 +7,6 @@ use lib.Dec.{leb}
 use lib.ListN.{drop}
 use Rattle.scan.specs.Run.{run}
 
--- the n bytes at an offset all pass
+-- the n bytes at an offset all pass; not where there are fewer
 unfoldable pub allIn : (ℕ → Bool) → ℕ → ℕ → List ℕ → Bool
 allIn p at n s = leb n (run p (drop at s))

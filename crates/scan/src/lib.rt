@@ -1,4 +1,4 @@
-// Reading a byte or nothing, comparing two texts, tests as numbers, and counting loops over a set of bytes.
+// Reading a byte or nothing, comparing two texts, tests as numbers, whether some bytes are ASCII, and counting loops over a set of bytes.
 ghost use mathlib.Core.Path.{_≡_};
 ghost use mathlib.Core.Bool.{cond};
 ghost use Prim.Native.Nat.{_+_, _-_, _≤_, min, max};

@@ -14,7 +14,7 @@ use Rattle.scan.proofs.Cases.{cond-lt, cond-in}
 use Rattle.scan.proofs.Windows.{all-each}
 use Rattle.utf8.specs.Valid.{isUtf8}
 use Rattle.utf8.proofs.Valid.{isUtf8-front, isUtf8-ascii}
-use Rattle.validation.specs.Windows.{isAscii, knownAscii}
+use Rattle.validation.specs.Ascii.{isAscii, knownAscii}
 
 -- the bytes from an offset on are ASCII
 abbrev pub AsciiFrom : List ℕ → ℕ → Type 0

@@ -1,3 +1,3 @@
 pub mod Pairs
-pub mod Windows
+pub mod Ascii
 pub mod Ends

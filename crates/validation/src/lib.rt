@@ -1,4 +1,4 @@
-// Whether a text is UTF-8: a short one is checked character by character, a long one byte by byte in blocks.
+// Whether a text is UTF-8: a short one, where it is not ASCII, is checked character by character, a long one byte by byte in blocks.
 ghost use mathlib.Core.Path.{_≡_};
 ghost use Prim.Native.Nat.{_+_, _≤_, _<_};
 ghost use lib.ListN.{length, getD, drop};
@@ -8,7 +8,7 @@ ghost use Rattle.utf8.specs.Decode.{decode, lenOf};
 ghost use Rattle.utf8.specs.Valid.{isUtf8};
 ghost use Rattle.utf8.specs.Cut.{tail};
 ghost use Rattle.validation.specs.Pairs.{PairAt};
-ghost use Rattle.validation.specs.Windows.{isAscii, shortAscii, knownAscii};
+ghost use Rattle.validation.specs.Ascii.{isAscii, shortAscii, knownAscii};
 
 // Whether a byte 10xxxxxx stands at an offset; behind the end there is none.
 fn has_tail(text: &[u8], at: usize) -> bool
@@ -109,7 +109,7 @@ fn few_ascii(s: &[u8]) -> bool
 }
 
 // Whether a text is ASCII. Up to three bytes, the first, the middle and the last are all there are; up to 32 bytes, the first and the last four,
-// eight or sixteen.
+// eight or sixteen; a longer one goes by its highest byte.
 fn is_ascii(text: &[u8]) -> bool
     ensures { λ r. ⌜ r ≡ isAscii (now (text .entry)) ⌝ }
 {

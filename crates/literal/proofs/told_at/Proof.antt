@@ -6,11 +6,11 @@ use lib.Dec.{eqb}
 use mathlib.Core.Logic.{inl, inr}
 use borrow.Author.Needs.{needs}
 use borrow.Author.Tests.{eq-eqb, ne-eqb, not-true, not-false}
-use Rattle.literal.specs.Early.{unquoted, toldAt}
+use Rattle.literal.specs.Early.{noLiteral, toldAt}
 use Rattle.err.specs.declared.ParseErrorKind.the-variants.{InvalidLiteral}
 use Rattle.err.specs.declared.Span.the-variants.{Nowhere}
 use Rattle.scan.proofs.Parts.{part-to-end}
-use Rattle.validation.specs.Windows.{shortAscii}
+use Rattle.validation.specs.Ascii.{shortAscii}
 use Rattle.character.specs.declared.Told.the-variants.{Refused, Unknown}
 use Rattle.literal.proofs.Early.{either, only-zero, told-few}
 use Rattle.literal.proofs.told_at.Statement.{statement}
@@ -42,7 +42,7 @@ starts-nothing-requires : tie.Need-starts-nothing-requires
 starts-nothing-requires c κs = search needs
 
 returns-4 : tie.Need-returns-4
-unfolding toldAt unquoted
+unfolding toldAt noLiteral
 returns-4 c =
     let b = c .before .before .before in
     rw (either (b .before .before .before .match .keys1), ne-eqb _ 39 (b .if2 .left), ← c .before .starts-nothing .ensures, not-true (c .before .starts-nothing .result) (c .if3 .taken), and-false (eqb (b .before .before .before .before .before .args .code) 0))
@@ -69,7 +69,7 @@ is-short-ascii-requires c κs = search needs
 tested : (c : tie.After-is-short-ascii) →
     let a = c .before .before .before .before .before .before .before .before .before .before .before .args in
     toldAt (a .code) (a .text .now) ≡ cond (c .is-short-ascii .result) (Refused InvalidLiteral Nowhere) Unknown
-unfolding toldAt unquoted
+unfolding toldAt noLiteral
 tested c =
     let e = c .before .before in
     let d = e .before .before in

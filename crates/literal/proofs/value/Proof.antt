@@ -5,7 +5,7 @@ use Rattle.err.specs.Reading.{outcomeOf}
 use Rattle.err.specs.declared.Reading.the-variants as reading
 use Rattle.literal.specs.Readings.{readAt}
 use Rattle.literal.specs.Values.{checkedValue, valueAt}
-use Rattle.literal.proofs.Early.{unquoted-value}
+use Rattle.literal.proofs.Early.{no-literal-value}
 use Rattle.literal.proofs.Calls.{no-other-integer, value-read, value-ends, value-given}
 use borrow.Author.Needs.{needs}
 use Rattle.literal.proofs.value.Statement.{statement}
@@ -50,11 +50,11 @@ typed c =
     let a = l .before .before in
     rw (← a .before .before .from-code .ensures, a .found .given .1, ← l .largest .ensures, b .most .given .1)
 
-is-unquoted-requires : tie.Need-is-unquoted-requires
-is-unquoted-requires c κs = search needs
+is-no-literal-requires : tie.Need-is-no-literal-requires
+is-no-literal-requires c κs = search needs
 
 returns-3 : tie.Need-returns-3
-returns-3 c = let b = c .before in (rw (typed (b .before), unquoted-value _ _ (sym (b .is-unquoted .ensures) ∙ c .if1 .taken)), refl)
+returns-3 c = let b = c .before in (rw (typed (b .before), no-literal-value _ _ (sym (b .is-no-literal .ensures) ∙ c .if1 .taken)), refl)
 
 read-requires : tie.Need-read-requires
 read-requires c κs = search needs
@@ -98,7 +98,7 @@ value-spec =
     enum-known-most
     enum-told-2
     returns-2
-    is-unquoted-requires
+    is-no-literal-requires
     returns-3
     read-requires
     enum-known-reading

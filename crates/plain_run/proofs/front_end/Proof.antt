@@ -9,7 +9,7 @@ use Rattle.scan.specs.Run.{run}
 use Rattle.scan.proofs.Runs.{run-le, run-past}
 use Rattle.scan.proofs.Windows.{all-last}
 use Rattle.plain_run.specs.Plain.{plainByte}
-use Rattle.plain_run.proofs.Windows.{eight-passed}
+use Rattle.plain_run.proofs.Sure.{eight-passed}
 use Rattle.plain_run.proofs.front_end.Statement.{statement}
 use Rattle.plain_run.proofs.front_end.Tie as tie
 

@@ -1,7 +1,7 @@
 -- `plain_run::is_sure` meets its contract.
 -- Assumes nothing.
 use mathlib.Core.Path.{refl}
-use Rattle.plain_run.specs.Windows.{sureByte}
+use Rattle.plain_run.specs.Sure.{sureByte}
 use Rattle.plain_run.proofs.is_sure.Statement.{statement}
 use Rattle.plain_run.proofs.is_sure.Tie as tie
 

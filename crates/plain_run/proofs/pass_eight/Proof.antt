@@ -2,7 +2,7 @@
 -- Assumes nothing.
 use mathlib.Core.Path.{sym, _∙_}
 use borrow.Author.Needs.{needs}
-use Rattle.plain_run.specs.Windows.{passIn}
+use Rattle.plain_run.specs.Sure.{passIn}
 use Rattle.plain_run.proofs.pass_eight.Statement.{statement}
 use Rattle.plain_run.proofs.pass_eight.Tie as tie
 

@@ -1,8 +1,8 @@
 -- `plain_run::sure_eight` meets its contract.
 -- Assumes nothing.
 use borrow.Author.Needs.{needs}
-use Rattle.plain_run.specs.Windows.{sureByte}
-use Rattle.plain_run.proofs.Windows.{all-twos}
+use Rattle.plain_run.specs.Sure.{sureByte}
+use Rattle.plain_run.proofs.Sure.{all-twos}
 use Rattle.plain_run.proofs.sure_eight.Statement.{statement}
 use Rattle.plain_run.proofs.sure_eight.Tie as tie
 

@@ -2,7 +2,7 @@
 -- Assumes nothing.
 use borrow.Author.Needs.{needs}
 use Rattle.scan.proofs.Windows.{all-pair}
-use Rattle.plain_run.specs.Windows.{sureByte}
+use Rattle.plain_run.specs.Sure.{sureByte}
 use Rattle.plain_run.proofs.sure_two.Statement.{statement}
 use Rattle.plain_run.proofs.sure_two.Tie as tie
 

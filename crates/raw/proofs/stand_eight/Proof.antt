@@ -1,7 +1,7 @@
 -- `raw::stand_eight` meets its contract.
 -- Assumes nothing.
 use borrow.Author.Needs.{needs}
-use Rattle.plain_run.proofs.Windows.{all-twos}
+use Rattle.plain_run.proofs.Sure.{all-twos}
 use Rattle.raw.specs.Scan.{beforeQuote}
 use Rattle.raw.proofs.stand_eight.Statement.{statement}
 use Rattle.raw.proofs.stand_eight.Tie as tie

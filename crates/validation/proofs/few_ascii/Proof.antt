@@ -1,7 +1,7 @@
 -- `validation::few_ascii` meets its contract.
 -- Assumes nothing.
 use borrow.Author.Needs.{needs}
-use Rattle.validation.proofs.Windows.{ascii-none, ascii-few}
+use Rattle.validation.proofs.Ascii.{ascii-none, ascii-few}
 use Rattle.validation.proofs.few_ascii.Statement.{statement}
 use Rattle.validation.proofs.few_ascii.Tie as tie
 

@@ -4,7 +4,7 @@ use mathlib.Core.Path.{ap, _∙_}
 use Prim.Native.Nat.{ℕ}
 use native.Mathlib.Omega.{arith}
 use lib.Dec.{ltb}
-use Rattle.validation.proofs.Windows.{ascii-ends, ascii-highest}
+use Rattle.validation.proofs.Ascii.{ascii-ends, ascii-highest}
 use borrow.Author.Needs.{needs}
 use Rattle.validation.proofs.is_ascii.Statement.{statement}
 use Rattle.validation.proofs.is_ascii.Tie as tie

@@ -4,8 +4,8 @@ use mathlib.Core.Path.{_∙_}
 use native.Mathlib.Omega.{arith}
 use borrow.Author.Needs.{needs}
 use borrow.Author.Tests.{lt-ltb, le-ltb}
-use Rattle.validation.specs.Windows.{shortAscii}
-use Rattle.validation.proofs.Windows.{ascii-ends}
+use Rattle.validation.specs.Ascii.{shortAscii}
+use Rattle.validation.proofs.Ascii.{ascii-ends}
 use Rattle.validation.proofs.is_short_ascii.Statement.{statement}
 use Rattle.validation.proofs.is_short_ascii.Tie as tie
 

@@ -2,7 +2,7 @@
 -- Assumes nothing.
 use borrow.Author.Needs.{needs}
 use borrow.Author.Tests.{lt-ltb, le-ltb}
-use Rattle.validation.specs.Windows.{knownAscii}
+use Rattle.validation.specs.Ascii.{knownAscii}
 use Rattle.validation.proofs.known_ascii.Statement.{statement}
 use Rattle.validation.proofs.known_ascii.Tie as tie
 

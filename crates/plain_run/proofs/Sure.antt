@@ -17,7 +17,7 @@ use Rattle.scan.proofs.Windows.{all-each, all-join}
 use Rattle.escape.specs.Allows.{unicode, allowNul}
 use Rattle.escape.specs.declared.Allowed.{Allowed}
 use Rattle.plain_run.specs.Plain.{plainByte}
-use Rattle.plain_run.specs.Windows.{sureByte, passIn}
+use Rattle.plain_run.specs.Sure.{sureByte, passIn}
 
 -- what was found of eight bytes by twos
 pub all-twos : (p : ℕ → Bool) (s : List ℕ) (at : ℕ) {t u v w : Bool}

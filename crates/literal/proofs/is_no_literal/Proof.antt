@@ -1,17 +1,17 @@
--- `literal::is_unquoted` meets its contract.
+-- `literal::is_no_literal` meets its contract.
 -- Assumes nothing.
 use mathlib.Core.Path.{sym, ap, _∙_}
 use borrow.Author.Needs.{needs}
 use borrow.Author.Tests.{not-true, not-false}
-use Rattle.validation.specs.Windows.{shortAscii}
+use Rattle.validation.specs.Ascii.{shortAscii}
 use Rattle.scan.proofs.Parts.{part-to-end}
-use Rattle.literal.specs.Early.{unquoted}
-use Rattle.literal.proofs.Early.{unquoted-few}
-use Rattle.literal.proofs.is_unquoted.Statement.{statement}
-use Rattle.literal.proofs.is_unquoted.Tie as tie
+use Rattle.literal.specs.Early.{noLiteral}
+use Rattle.literal.proofs.Early.{no-literal-few}
+use Rattle.literal.proofs.is_no_literal.Statement.{statement}
+use Rattle.literal.proofs.is_no_literal.Tie as tie
 
 returns : tie.Need-returns
-returns c = sym (unquoted-few (c .before .before .args .text .now) (c .if1 .taken))
+returns c = sym (no-literal-few (c .before .before .args .text .now) (c .if1 .taken))
 
 shared-slice-read-starts-nothing : tie.Need-shared-slice-read-starts-nothing
 shared-slice-read-starts-nothing c = search needs
@@ -20,7 +20,7 @@ starts-nothing-requires : tie.Need-starts-nothing-requires
 starts-nothing-requires c κs = search needs
 
 returns-2 : tie.Need-returns-2
-unfolding unquoted
+unfolding noLiteral
 returns-2 c = rw (← c .before .starts-nothing .ensures, not-true (c .before .starts-nothing .result) (c .if2 .taken))
 
 sub-is-short-ascii : tie.Need-sub-is-short-ascii
@@ -36,13 +36,13 @@ is-short-ascii-requires : tie.Need-is-short-ascii-requires
 is-short-ascii-requires c κs = search needs
 
 returns-3 : tie.Need-returns-3
-unfolding unquoted
+unfolding noLiteral
 returns-3 c =
     let d = c .before .before in
     rw (← d .before .starts-nothing .ensures, not-false (d .before .starts-nothing .result) (d .if2 .left)) (c .is-short-ascii .ensures ∙ ap shortAscii (part-to-end 1 (d .before .before .before .before .before .args .text .now)))
 
-pub is-unquoted-spec : {M : Type 1} → statement M
-is-unquoted-spec =
+pub is-no-literal-spec : {M : Type 1} → statement M
+is-no-literal-spec =
     tie.close
     (tie.spec
     returns

@@ -15,7 +15,7 @@ use Rattle.scan.proofs.Cases.{by-lt}
 use Rattle.scan.proofs.Runs.{run-past}
 use Rattle.block_validation.specs.HighBytes.{highestFrom}
 use Rattle.block_validation.proofs.HighBytes.{ascii-low, ascii-high, highest-above}
-use Rattle.validation.specs.Windows.{isAscii}
+use Rattle.validation.specs.Ascii.{isAscii}
 
 -- what was found at the two ends tells of the whole text
 pub ascii-ends : (s : List ℕ) (n : ℕ) {t u : Bool} → n ≤ length s → length s ≤ n + n
