@@ -42,6 +42,7 @@ pairAlone s =
     cond (eqb (length s) 4 && (leb (getD s 1 0) 127 && (leb (getD s 2 0) 127 && not (eqb (getD s 2 0) 39)))) (Refused OverlongCharLiteral Nowhere)
     Unknown
 
+-- by the character that stands between the quotes, or that there is none
 abbrev pub toldBy : List ℕ → Decoded → Told
 toldBy s (decoded.Char c n) = told.Char c
 toldBy s decoded.Bad = pairAlone s

@@ -75,10 +75,10 @@ impl Quote {
         match self {
             Quote::Char => scan::byte_at(text, 0) == b'\'',
             Quote::Byte => {
-                if scan::byte_at(text, 0) != b'b' {
+                if text.len() < 2 {
                     return false;
                 }
-                scan::byte_at(text, 1) == b'\''
+                (text[0] == b'b') & (text[1] == b'\'')
             }
         }
     }

@@ -34,6 +34,10 @@ fn starts_suffix(b: u8) -> bool
 fn is_suffix_rest(b: u8) -> bool
     ensures { λ r. ⌜ r ≡ suffixRest b ⌝ }
 {
+    // small letters first
+    if b'a' <= b {
+        return starts_suffix(b);
+    }
     if b <= b'9' {
         return b'0' <= b;
     }
