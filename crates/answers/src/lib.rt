@@ -1,79 +1,25 @@
-// The line that `batch` writes for each answer but that of a settling, which it makes of the same parts; and whether a lent buffer is as it was.
+// The line that a record of the batch format comes to (docs/BATCH.md), and the line of the program `keybasket`. Lines are made here in a lent buffer; the
+// programs print them.
 use err::ParseErrorKind;
-use err::Reading;
 use err::Span;
 use integer_value::IntegerValue;
-use libc::STDOUT_FILENO;
+use settle::Settled;
 use string::Decoded;
 ghost use mathlib.Core.Path.{_≡_};
-ghost use Prim.Native.Nat.{_≤_};
-ghost use lib.Dec.{eqb};
-ghost use lib.ListN.{length, drop, replicate};
-ghost use Rattle.scan.specs.Run.{run};
-ghost use Rattle.scan.specs.Sets.{only};
-
-// The first bytes of a line are written, and its end.
-fn write_line(line: &mut [u8], at: usize)
-    requires { ⌜ at ≤ length (now line) ⌝ }
-    ensures { λ r. ⌜ length (now (line .exit)) ≡ length (now (line .entry)) ⌝ }
-{
-    let n = lines::add(line, at, b"\n");
-    io::write_all(STDOUT_FILENO, &line[0..n]);
-}
-
-// The line of a reading.
-pub fn answer_reading(line: &mut [u8], r: Reading)
-    ensures { λ r. ⌜ length (now (line .exit)) ≡ length (now (line .entry)) ⌝ }
-{
-    let n = lines::add_reading(line, r);
-    write_line(line, n);
-}
-
-// `ok` and a number.
-pub fn answer_number(line: &mut [u8], n: u64)
-    ensures { λ r. ⌜ length (now (line .exit)) ≡ length (now (line .entry)) ⌝ }
-{
-    let at = lines::add_ok(line, n);
-    write_line(line, at);
-}
-
-// The line of an integer's value.
-pub fn answer_value(line: &mut [u8], v: IntegerValue)
-    ensures { λ r. ⌜ length (now (line .exit)) ≡ length (now (line .entry)) ⌝ }
-{
-    match v {
-        IntegerValue::Given(n) => answer_number(line, n),
-        IntegerValue::Refused(kind, span) => {
-            let at = lines::add_refusal(line, kind, span);
-            write_line(line, at);
-        }
-    }
-}
-
-// A line of words.
-pub fn answer_words(line: &mut [u8], words: &[u8])
-    ensures { λ r. ⌜ length (now (line .exit)) ≡ length (now (line .entry)) ⌝ }
-{
-    let at = lines::add(line, 0, words);
-    write_line(line, at);
-}
-
-// Every byte of a buffer from an offset on is 165 still.
-fn is_kept(out: &[u8], from: usize) -> bool
-    ensures { λ r. ⌜ r ≡ eqb (run (only 165) (drop from (now (out .entry)))) (length (drop from (now (out .entry)))) ⌝ }
-{
-    let mut i = from;
-    while i < out.len() {
-        if out[i] != 165 {
-            return false;
-        }
-        i += 1;
-    }
-    true
-}
+ghost use Prim.Native.Nat.{_+_, _*_, _≤_};
+ghost use lib.ListN.{length, take, replicate};
+ghost use Rattle.err.specs.Numbers.{numberOf};
+ghost use Rattle.err.specs.Reading.{placeOf};
+ghost use Rattle.buffer.specs.Buffer.{Wrote};
+ghost use Rattle.lines.specs.Lines.{Added};
+ghost use Rattle.integer_value.specs.Value.{valuedOf};
+ghost use Rattle.literal.specs.Decodes as decodes;
+ghost use Rattle.settle.specs.Settled.{formed, settleAt, bufferAt, formAt};
+ghost use Rattle.answers.specs.Records.{valuedLine, writtenPiece, refusedLine, decodingLine, settlingLine, operationLine, operationBuffer, recordLine, recordBuffer};
+ghost use Rattle.answers.specs.Program.{formLine, programLine};
 
 // Every byte becomes 165.
-pub fn fill(out: &mut [u8])
+fn fill(out: &mut [u8])
     ensures { λ r. ⌜ (length (now (out .exit)) ≡ length (now (out .entry))) × (now (out .exit) ≡ replicate (length (now (out .entry))) 165) ⌝ }
 {
     let mut i = 0;
@@ -83,51 +29,124 @@ pub fn fill(out: &mut [u8])
     }
 }
 
-// Whether a buffer behind its first bytes is as it was, at the end of a line.
-fn add_kept(line: &mut [u8], at: usize, out: &[u8], from: usize) -> usize
-    requires { ⌜ at ≤ length (now line) ⌝ }
-    ensures { λ r. ⌜ r ≤ length (now (line .exit)) ⌝ }
+// The line of an integer's value.
+fn put_value(line: &mut [u8], v: IntegerValue) -> usize
+    requires { ⌜ 128 ≤ length (now line) ⌝ }
+    ensures { λ r. ⌜ Wrote (valuedLine (valuedOf v)) r (now (line .entry)) (now (line .exit)) × (r ≤ 107) ⌝ }
 {
-    if is_kept(out, from) {
-        return lines::add(line, at, b" kept");
+    match v {
+        IntegerValue::Given(n) => lines::put_ok(line, n),
+        IntegerValue::Refused(kind, span) => lines::put_refusal(line, kind, span),
     }
-    lines::add(line, at, b" changed")
 }
 
-// The line of a refusal after which the whole lent buffer should be as it was.
-pub fn answer_refused(line: &mut [u8], kind: ParseErrorKind, span: Span, out: &[u8])
-    ensures { λ r. ⌜ length (now (line .exit)) ≡ length (now (line .entry)) ⌝ }
+// The line of a refusal, and whether the whole lent buffer is as it was.
+fn put_refused(line: &mut [u8], kind: ParseErrorKind, span: Span, out: &[u8]) -> usize
+    requires { ⌜ 128 ≤ length (now line) ⌝ }
+    ensures { λ r. ⌜ Wrote (refusedLine (numberOf kind) (placeOf span) (now (out .entry))) r (now (line .entry)) (now (line .exit)) × (r ≤ 115) ⌝ }
 {
-    let at = lines::add_refusal(line, kind, span);
-    let end = add_kept(line, at, out, 0);
-    write_line(line, end);
+    let at = lines::put_refusal(line, kind, span);
+    lines::add_kept(line, at, out, 0)
 }
 
-// The rest of a line: the first bytes of a lent buffer, and whether those behind them are as they were.
-pub fn answer_front(line: &mut [u8], at: usize, out: &[u8], n: usize)
-    requires { ⌜ at ≤ length (now line) ⌝ }
-    ensures { λ r. ⌜ length (now (line .exit)) ≡ length (now (line .entry)) ⌝ }
+// The first n bytes of a lent buffer, and whether those after them are as they were.
+fn add_written(line: &mut [u8], at: usize, out: &[u8], n: usize) -> usize
+    requires { ⌜ (n ≤ length (now out)) × (at + (10 + 2 * n) ≤ length (now line)) ⌝ }
+    ensures { λ r. ⌜ Added (writtenPiece n (now (out .entry))) at r (now (line .entry)) (now (line .exit)) × (r ≤ at + (10 + 2 * n)) ⌝ }
 {
-    // cannot arise: so many bytes were written there
-    if out.len() < n {
-        write_line(line, at);
-        return;
-    }
-    let start = lines::add(line, at, b" ");
-    let next = lines::add_hex(line, start, &out[0..n]);
-    let end = add_kept(line, next, out, n);
-    write_line(line, end);
+    let next = lines::add_hex(line, at, &out[..n]);
+    lines::add_kept(line, next, out, n)
 }
 
-// The line of a decoding into a buffer that was lent.
-pub fn answer_decoded(line: &mut [u8], d: Decoded, out: &[u8])
-    ensures { λ r. ⌜ length (now (line .exit)) ≡ length (now (line .entry)) ⌝ }
+// The line of decoding by an entry code.
+fn put_decoding(line: &mut [u8], code: u8, text: &[u8], out: &mut [u8]) -> usize
+    requires { ⌜ 128 + 2 * length (now out) ≤ length (now line) ⌝ }
+    ensures { λ r. ⌜ Wrote (decodingLine code (now (text .entry)) (now (out .entry))) r (now (line .entry)) (now (line .exit)) × (r ≤ 115 + 2 * length (now (out .entry))) ⌝ }
+    ensures { λ r. ⌜ now (out .exit) ≡ decodes.bufferAt code (now (text .entry)) (now (out .entry)) ⌝ }
 {
+    let d = literal::decode(code as u64, text, out);
     match d {
-        Decoded::Refused(kind, span) => answer_refused(line, kind, span, out),
+        Decoded::Refused(kind, span) => put_refused(line, kind, span, out),
         Decoded::Written(n) => {
-            let at = lines::add_ok(line, n as u64);
-            answer_front(line, at, out, n);
+            let at = lines::put_ok(line, n as u64);
+            add_written(line, at, out, n)
         }
     }
+}
+
+// The line of settling.
+fn put_settling(line: &mut [u8], text: &[u8], out: &mut [u8]) -> usize
+    requires { ⌜ 128 + 2 * length (now out) ≤ length (now line) ⌝ }
+    ensures { λ r. ⌜ Wrote (settlingLine (now (text .entry)) (now (out .entry))) r (now (line .entry)) (now (line .exit)) × (r ≤ 115 + 2 * length (now (out .entry))) ⌝ }
+    ensures { λ r. ⌜ now (out .exit) ≡ bufferAt (now (text .entry)) (now (out .entry)) ⌝ }
+{
+    let s = settle::settle(text, out);
+    match s {
+        Settled::Refused(kind, span) => put_refused(line, kind, span, out),
+        Settled::Formed(kind, n) => {
+            let at = lines::put_kind(line, kind as u64, n);
+            add_written(line, at, out, n)
+        }
+    }
+}
+
+// The line of an operation, by its letter.
+fn put_operation(line: &mut [u8], letter: u8, code: u8, text: &[u8], out: &mut [u8]) -> usize
+    requires { ⌜ 128 + 2 * length (now out) ≤ length (now line) ⌝ }
+    ensures { λ r. ⌜ Wrote (operationLine letter code (now (text .entry)) (now (out .entry))) r (now (line .entry)) (now (line .exit)) × (r ≤ 115 + 2 * length (now (out .entry))) ⌝ }
+    ensures { λ r. ⌜ now (out .exit) ≡ operationBuffer letter code (now (text .entry)) (now (out .entry)) ⌝ }
+{
+    match letter {
+        b'R' => lines::put_reading(line, literal::read(code as u64, text)),
+        b'V' => put_value(line, literal::value(code as u64, text)),
+        b'D' => put_decoding(line, code, text, out),
+        b'S' => put_settling(line, text, out),
+        b'I' => lines::put_ok(line, literal::integer_from_suffix(text) as u64),
+        b'F' => lines::put_ok(line, literal::float_from_suffix(text) as u64),
+        _ => lines::add(line, 0, b"bad operation"),
+    }
+}
+
+// The line of a record, with its line feed. The buffer is as long as the record lends it.
+pub fn record_line(line: &mut [u8], letter: u8, code: u8, text: &[u8], out: &mut [u8]) -> usize
+    requires { ⌜ 128 + 2 * length (now out) ≤ length (now line) ⌝ }
+    ensures { λ r. ⌜ Wrote (recordLine letter code (now (text .entry)) (length (now (out .entry)))) r (now (line .entry)) (now (line .exit)) ⌝ }
+    ensures { λ r. ⌜ now (out .exit) ≡ recordBuffer letter code (now (text .entry)) (length (now (out .entry))) ⌝ }
+{
+    fill(out);
+    let n = put_operation(line, letter, code, text, out);
+    lines::add(line, n, b"\n")
+}
+
+// `ok`, the kind and the first n bytes of a buffer, which are the form.
+fn put_formed(line: &mut [u8], kind: u8, out: &[u8], n: usize) -> usize
+    requires { ⌜ (n ≤ length (now out)) × (128 + n ≤ length (now line)) ⌝ }
+    ensures { λ r. ⌜ Wrote (formLine (formed kind n) (take n (now (out .entry)))) r (now (line .entry)) (now (line .exit)) × (r ≤ 24 + n) ⌝ }
+{
+    let at = lines::put_ok(line, kind as u64);
+    let next = lines::add(line, at, b" ");
+    lines::add(line, next, &out[..n])
+}
+
+// The line of a text's settled form, or of its refusal.
+fn put_form(line: &mut [u8], text: &[u8], out: &mut [u8]) -> usize
+    requires { ⌜ 128 + length (now out) ≤ length (now line) ⌝ }
+    ensures { λ r. ⌜ Wrote (formLine (settleAt (now (text .entry)) (length (now (out .entry)))) (formAt (now (text .entry)))) r (now (line .entry)) (now (line .exit)) × (r ≤ 107 + length (now (out .entry))) ⌝ }
+    ensures { λ r. ⌜ now (out .exit) ≡ bufferAt (now (text .entry)) (now (out .entry)) ⌝ }
+{
+    let s = settle::settle(text, out);
+    match s {
+        Settled::Refused(kind, span) => lines::put_refusal(line, kind, span),
+        Settled::Formed(kind, n) => put_formed(line, kind, out, n),
+    }
+}
+
+// The line of the program `keybasket`, with its line feed.
+pub fn program_line(line: &mut [u8], text: &[u8], out: &mut [u8]) -> usize
+    requires { ⌜ (length (now out) ≡ 65536) × (65664 ≤ length (now line)) ⌝ }
+    ensures { λ r. ⌜ Wrote (programLine (now (text .entry))) r (now (line .entry)) (now (line .exit)) ⌝ }
+    ensures { λ r. ⌜ now (out .exit) ≡ bufferAt (now (text .entry)) (now (out .entry)) ⌝ }
+{
+    let end = put_form(line, text, out);
+    lines::add(line, end, b"\n")
 }

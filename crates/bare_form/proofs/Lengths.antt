@@ -40,6 +40,14 @@ byte-length b x = rw (byte-style 39 b, length-append) (omega arith)
 
 -- ---- integers and floats, which may have none
 
+-- the number that is at most the largest
+pub same-number : (m : ℕ) {n : ℕ} → Number n ≡ numberWithin 18446744073709551615 m → n ≡ m
+same-number m {n} = by-test (leb m 18446744073709551615)
+  where
+    by-test : (t : Bool) → Number n ≡ cond t (Number m) Over → n ≡ m
+    by-test true e = cc
+    by-test false e = let z : _≡_ {A = ℕ} 0 1 = cc in absurd (omega arith)
+
 module _ (m : ℕ) (x : List ℕ) where
   -- a number that is at most the largest
   pub is-within : {n : ℕ} → Number n ≡ numberWithin 18446744073709551615 m → len (length (bareForm (worth.integer n) x)) ≡ bareLen (worth.integer m) x
@@ -61,7 +69,7 @@ module _ (m : ℕ) (x : List ℕ) where
       by-test true e = let z : _≡_ {A = ℕ} 0 1 = cc in absurd (omega arith)
       by-test false e = refl
 
--- the length of a float's form, as float_form answers it
+-- the length of a float's form, as float_form returns it
 abbrev pub bareIn : Length → BareLength
 bareIn (known n) = len n
 bareIn too-far = bad 46 none

@@ -18,6 +18,8 @@ use Rattle.scan.specs.Same.{same}
 use Rattle.scan.proofs.Cases.{cond-in}
 use Rattle.scan.proofs.Sames.{same-eq}
 use Rattle.utf8.specs.Utf8.{Utf8, Scalar}
+use Rattle.escape.specs.declared.Allowed.{Allowed}
+use Rattle.escape.specs.declared.Allowed.the-variants.{Text, Bytes, C}
 use Rattle.grammar.specs.Meaning as worth
 use Rattle.form.specs.Form.{bareForm}
 use Rattle.boolean.specs.Bool.{boolRead, trueText, falseText}
@@ -26,8 +28,6 @@ use Rattle.integer.proofs.Parts.{read-ends}
 use Rattle.float.specs.Float.{floatRead}
 use Rattle.character.proofs.Values.{char-value}
 use Rattle.string.specs.String.{kindOf, stringRead}
-use Rattle.string.specs.declared.Kind.{Kind}
-use Rattle.string.specs.declared.Kind.the-variants.{Text, Bytes, C}
 use Rattle.literal.specs.Readings.{entryRead, readAt}
 use Rattle.literal.proofs.Answers.{read-passed, entry-accepted}
 use Rattle.literal.proofs.Inside.{entry-inside, start-inside}
@@ -52,7 +52,7 @@ module _ (s : List ℕ) {k e : ℕ} {vs : Values} (is : accepted k e vs ≡ read
 -- ---- by kind
 
 -- the three kinds with decoded bytes
-abbrev pub stringIn : Kind → StringLit → Outcome
+abbrev pub stringIn : Allowed → StringLit → Outcome
 stringIn k lit = accepted (kindOf k) (lit .«start_suffix») (decoded (hashesOf (lit .hashes)) (lit .«value_len»))
 
 -- the text of a bool is its form
@@ -84,7 +84,7 @@ module _ (s : List ℕ) where
   unfolding entryRead
   char-scalar lit is = char-value s (own s is)
 
-  pub string-read : (k : Kind) (lit : StringLit) → stringIn k lit ≡ readAt 0 s → stringIn k lit ≡ stringRead k s
+  pub string-read : (k : Allowed) (lit : StringLit) → stringIn k lit ≡ readAt 0 s → stringIn k lit ≡ stringRead k s
   unfolding entryRead
   string-read Text lit is = sym (own s is)
   string-read Bytes lit is = sym (own s is)

@@ -20,7 +20,7 @@ pub data BareLength : Type 0 where
   len : ℕ → BareLength
   bad : ℕ → Place → BareLength
 
--- document 01's number and span for each case of what the code answers
+-- document 01's number and span for each case of what the code returns
 abbrev pub bareOf : Bare → BareLength
 bareOf (bare.Len n) = len n
 bareOf (bare.Refused k p) = bad (numberOf k) (placeOf p)

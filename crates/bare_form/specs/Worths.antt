@@ -5,11 +5,11 @@ use mathlib.Core.List.{List}
 use Prim.Native.Nat.{ℕ}
 use lib.Dec.{eqb}
 use Rattle.err.specs.Outcome.{Values, truth, digits, ends, value, decoded}
+use Rattle.escape.specs.declared.Allowed.the-variants.{Text, Bytes, C}
 use Rattle.grammar.specs.Meaning.{Worth}
 use Rattle.grammar.specs.Meaning as worth
 use Rattle.integer_value.specs.Value.{number}
 use Rattle.string.specs.String.{stringValue}
-use Rattle.string.specs.declared.Kind.the-variants.{Text, Bytes, C}
 use Rattle.scaling.specs.Scaled.{part, floatAt}
 
 -- the value of kinds 4 and 6

@@ -6,10 +6,11 @@ use err::IntegerLit;
 use err::ParseErrorKind;
 use err::Reading;
 use err::Span;
+use escape::Allowed;
 use float_form::FormLen;
 use integer_value::Within;
 use quoting::Style;
-use string::Kind;
+use types::IntegerType;
 ghost use mathlib.Core.Path.{_≡_};
 ghost use mathlib.Core.Bool.{true, false};
 ghost use mathlib.Core.List.{[]};
@@ -24,7 +25,6 @@ ghost use Rattle.form.specs.Form.{bareForm};
 ghost use Rattle.integer_value.specs.Value.{numberWithin, number};
 ghost use Rattle.scaling.specs.Scaled.{part};
 ghost use Rattle.literal.specs.Readings.{readAt};
-ghost use Rattle.numbers.specs.Numbers.{kindIn};
 ghost use Rattle.bare_form.specs.Bare.{bareOf, bareBy, bareFormBy, Roomy};
 
 // How long a form is without its suffix, or why there is none.
@@ -52,14 +52,14 @@ fn byte_style() -> Style
 }
 
 // An integer's number, where it is at most 2^64 − 1.
-pub fn number_of(text: &[u8], lit: IntegerLit) -> Within
+fn number_of(text: &[u8], lit: IntegerLit) -> Within
     requires { ⌜ outcomeOf (reading.Integer lit) ≡ readAt 0 (now text) ⌝ }
     ensures { λ r. ⌜ r ≡ numberWithin 18446744073709551615 (number (baseOf (lit .base)) (part (lit .«start_main_part») (lit .«end_main_part») (now (text .entry)))) ⌝ }
 {
     let start = lit.start_main_part;
     let end = lit.end_main_part;
     let base = lit.base;
-    integer_value::number_within(&text[start..end], base, 18446744073709551615)
+    integer_value::number_within(&text[start..end], base, IntegerType::U64_MAX)
 }
 
 fn integer_len(text: &[u8], lit: IntegerLit) -> Bare
@@ -72,6 +72,19 @@ fn integer_len(text: &[u8], lit: IntegerLit) -> Bare
     };
     let end = lit.end_main_part;
     Bare::Len(integer_form::form_len(n, &text[end..]))
+}
+
+// The number is worked out again. One above the largest cannot arise: it has no form.
+fn put_integer(out: &mut [u8], text: &[u8], lit: IntegerLit) -> usize
+    requires { ⌜ (outcomeOf (reading.Integer lit) ≡ readAt 0 (now text)) × Roomy (now text) (outcomeOf (reading.Integer lit)) (length (now out)) ⌝ }
+    ensures { λ r. ⌜ Wrote (bareFormBy (now (text .entry)) (outcomeOf (reading.Integer lit))) r (now (out .entry)) (now (out .exit)) ⌝ }
+{
+    let found = number_of(text, lit);
+    let Within::Number(n) = found else {
+        return 0;
+    };
+    let end = lit.end_main_part;
+    integer_form::put_form(out, n, &text[end..])
 }
 
 fn float_len(text: &[u8], lit: FloatLit) -> Bare
@@ -114,27 +127,27 @@ pub fn bare_len(text: &[u8], found: Reading) -> Bare
         Reading::Integer(lit) => integer_len(text, lit),
         Reading::Float(lit) => float_len(text, lit),
         Reading::Char(lit) => Bare::Len(2 + body_form::char_len(lit.value, char_style())),
-        Reading::String(lit) => Bare::Len(string_form::form_len(text, lit, Kind::Text)),
+        Reading::String(lit) => Bare::Len(string_form::form_len(text, lit, Allowed::Text)),
         Reading::Byte(lit) => Bare::Len(3 + quoting::form_len(lit.value, byte_style())),
-        Reading::ByteString(lit) => Bare::Len(string_form::form_len(text, lit, Kind::Bytes)),
-        Reading::CString(lit) => Bare::Len(string_form::form_len(text, lit, Kind::C)),
+        Reading::ByteString(lit) => Bare::Len(string_form::form_len(text, lit, Allowed::Bytes)),
+        Reading::CString(lit) => Bare::Len(string_form::form_len(text, lit, Allowed::C)),
     }
 }
 
-// The form of a reading that is no integer, without its suffix. A refused reading cannot arise: it has no form.
+// The form of a reading without its suffix. A refused reading cannot arise: it has no form.
 pub fn put_bare(out: &mut [u8], text: &[u8], found: Reading) -> usize
-    requires { ⌜ (outcomeOf found ≡ readAt 0 (now text)) × Roomy (now text) (outcomeOf found) (length (now out)) × (kindIn (outcomeOf found) ≡ 2 → ⊥) ⌝ }
+    requires { ⌜ (outcomeOf found ≡ readAt 0 (now text)) × Roomy (now text) (outcomeOf found) (length (now out)) ⌝ }
     ensures { λ r. ⌜ Wrote (bareFormBy (now (text .entry)) (outcomeOf found)) r (now (out .entry)) (now (out .exit)) ⌝ }
 {
     match found {
         Reading::Refused(_, _) => 0,
         Reading::Bool(_) => buffer::put_bytes(out, text),
-        Reading::Integer(_) => 0,
+        Reading::Integer(lit) => put_integer(out, text, lit),
         Reading::Float(lit) => float_form::put_float(out, text, lit),
         Reading::Char(lit) => put_char(out, lit),
-        Reading::String(lit) => string_form::put_form(out, text, lit, Kind::Text),
+        Reading::String(lit) => string_form::put_form(out, text, lit, Allowed::Text),
         Reading::Byte(lit) => put_byte(out, lit),
-        Reading::ByteString(lit) => string_form::put_form(out, text, lit, Kind::Bytes),
-        Reading::CString(lit) => string_form::put_form(out, text, lit, Kind::C),
+        Reading::ByteString(lit) => string_form::put_form(out, text, lit, Allowed::Bytes),
+        Reading::CString(lit) => string_form::put_form(out, text, lit, Allowed::C),
     }
 }

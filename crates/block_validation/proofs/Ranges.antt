@@ -5,14 +5,14 @@ use mathlib.Core.Bool.{true, false}
 use mathlib.Core.List.{List}
 use Prim.Native.Nat.{ℕ, _+_, _*_, _/_, _%_, _≤_, _<_}
 use native.Mathlib.Omega.{arith}
-use lib.ListN.{length, getD, drop, List·getD-eq-default}
+use lib.ListN.{length, getD, drop}
 use borrow.Author.Tests.{lt-ltb, le-ltb, eqb-true}
 use Rattle.scan.proofs.Cases.{cond-lt, cond-eq, by-lt}
 use Rattle.utf8.specs.Decode.{lengthFrom, decode2, chosen3, decode3, chosen4, decode4, decode, lenOf}
 use Rattle.utf8.specs.Cut.{tail}
 use Rattle.utf8.specs.declared.Decoded.{Decoded}
 use Rattle.utf8.specs.declared.Decoded.the-variants.{Bad}
-use Rattle.utf8.proofs.At.{decode-one, decode-two, decode-four, decode-none, decode-alone}
+use Rattle.utf8.proofs.At.{decode-one, decode-two, decode-four, decode-none}
 
 -- ---- the rows of the table by their first bytes
 
@@ -139,10 +139,6 @@ module _ (t : List ℕ) (at : ℕ) (within : at < length t) where
       ap lenOf (sym (by-lt a 0xC0
       (λ k. decode-none t at 0 within (length-tail a g k) (λ e. omega arith) (λ e. omega arith) (λ e. omega arith) (λ e. omega arith))
       (λ k. decode-two t at 2 within (length-two a k (omega arith)) refl ∙ overlong2 a (getD t (at + 1) 0) k h)))
-
-  pub len-last : 0x80 ≤ getD t at 0 → length t ≤ at + 1 → 0 ≡ lenOf (decode (drop at t))
-  unfolding tail
-  len-last g h = ap lenOf (sym (decode-alone t at within g (rw (List·getD-eq-default t 0 h))))
 
   pub none-above : 0xF4 < getD t at 0 → decode (drop at t) ≡ Bad
   none-above g =

@@ -1,41 +1,38 @@
 -- The code of a step: any but 0 is that of the piece that a backslash starts.
 -- Assumes nothing.
-use mathlib.Core.Path.{_≡_, refl, ap, sym, _∙_, subst}
-use mathlib.Core.Bool.{Bool, true, false, cond, not, _&&_}
+use mathlib.Core.Path.{_≡_, refl, ap, sym, _∙_}
+use mathlib.Core.Bool.{Bool, true, false, cond}
 use mathlib.Core.List.{List, [], _∷_}
-use Prim.Native.Nat.{ℕ, _+_, _-_, _*_, _≤_, _<_}
-use native.Mathlib.Nat.{add-zero}
+use Prim.Native.Nat.{ℕ, _+_, _-_, _≤_, _<_}
 use native.Mathlib.Omega.{arith}
 use borrow.Author.Tests.{eq-eqb, ne-eqb}
-use lib.Dec.{eqb, ltb}
+use lib.Dec.{eqb}
 use lib.ListN.{length, getD, take, drop, length-take, length-drop}
-use lib.Seq.{drop-cons, drop-drop, getD-drop, getD-take}
+use lib.Seq.{drop-cons, drop-drop, getD-drop}
 use Rattle.scan.specs.Run.{run}
-use Rattle.scan.proofs.Cases.{cond-in, cond-lt, cond-eq}
+use Rattle.scan.proofs.Cases.{cond-in, cond-eq}
 use Rattle.scan.proofs.Bytes.{byte-inside}
-use Rattle.parse.specs.Class.{classOf}
 use Rattle.parse.specs.Sets.{blank}
-use Rattle.utf8.specs.Cut.{tail, isBoundary, lastLen, front}
+use Rattle.utf8.specs.Cut.{tail, lastLen, front}
 use Rattle.utf8.proofs.Cuts.{front-length, front-drop}
-use Rattle.escape.specs.Allows.{byteEscapes, allowNul}
-use Rattle.escape.specs.Escape.{Escaped, value, bad, bytesOf, letterOf, xByte, xEscape, escapeBy, escapeOf}
+use Rattle.escape.specs.Escape.{Escaped, value, bad, escapeOf}
 use Rattle.escape_code.specs.Code.{pieceCode, escapeCode, codedLen, codedValue}
 use Rattle.escape.specs.declared.Allowed.{Allowed}
-use Rattle.escape.specs.declared.Unescaped.the-variants.{Byte}
+use Rattle.escape.specs.declared.Unescaped.the-variants.{Nothing}
 use Rattle.escape.proofs.Escapes.{too-short}
-use Rattle.escape_code.proofs.Codes.{Coded, code-len, code-value, EscapeCoded, escape-coded}
+use Rattle.escape_code.proofs.Codes.{Coded, code-len, code-value, code-some, EscapeCoded, escape-coded}
 use Rattle.body.specs.Step.{Next, piece, stop, ofEscape, lineBreakOf, backslashOf, plainOf, stepOf}
-use Rattle.body.specs.Code.{nextCode, backslashCode}
+use Rattle.body.specs.Code.{nextCode, backslashCode, Stopped}
 use Rattle.body.proofs.Steps as steps
 
 -- ---- what a code tells
 
 -- a piece is not empty, and what it stands for has a code of its own
-abbrev pub NextCoded : Next → Type 0
+abbrev NextCoded : Next → Type 0
 NextCoded (piece n u) = (0 < n) × Coded u
 NextCoded (stop e) = Unit {0}
 
-pub backslash-coded : (k : Allowed) (s : List ℕ) → NextCoded (backslashOf k s)
+backslash-coded : (k : Allowed) (s : List ℕ) → NextCoded (backslashOf k s)
 unfolding backslashOf lineBreakOf
 backslash-coded k s =
     let rest : List ℕ = drop 2 s in
@@ -47,60 +44,24 @@ backslash-coded k s =
     of-escape (value u n) h = h
     of-escape (bad num p) h = tt
 
--- a code other than 0 is that of the piece that a backslash starts
+-- THE LAW: a code other than 0 is that of the piece that a backslash starts.
 module _ (k : Allowed) (s : List ℕ) (c : ℕ) (e : c ≡ backslashCode k s) (z : c ≡ 0 → ⊥) where
-  pub code-piece : (stepOf k s ≡ backslashOf k s) × (backslashOf k s ≡ piece (codedLen c) (codedValue c))
+  pub code-step : stepOf k s ≡ piece (codedLen c) (codedValue c)
   unfolding backslashCode stepOf
-  code-piece = by-front s e
+  code-step = by-front s e
     where
       of-next : (x : Next) → NextCoded x → c ≡ nextCode x → x ≡ piece (codedLen c) (codedValue c)
       of-next (piece n u) h e = rw (e, code-len n u (h .1), code-value n u (h .1))
       of-next (stop w) h e = absurd (z e)
 
       by-test : (s : List ℕ) (p : Next) (t : Bool) → c ≡ cond t (nextCode (backslashOf k s)) 0
-          → (cond t (backslashOf k s) p ≡ backslashOf k s) × (backslashOf k s ≡ piece (codedLen c) (codedValue c))
-      by-test s p true e = (refl, of-next (backslashOf k s) (backslash-coded k s) e)
+          → cond t (backslashOf k s) p ≡ piece (codedLen c) (codedValue c)
+      by-test s p true e = of-next (backslashOf k s) (backslash-coded k s) e
       by-test s p false e = absurd (z e)
 
-      by-front : (s : List ℕ) → c ≡ backslashCode k s → (stepOf k s ≡ backslashOf k s) × (backslashOf k s ≡ piece (codedLen c) (codedValue c))
+      by-front : (s : List ℕ) → c ≡ backslashCode k s → stepOf k s ≡ piece (codedLen c) (codedValue c)
       by-front [] e = absurd (z e)
       by-front (b ∷ s) e = by-test (b ∷ s) (plainOf k b) (eqb b 92) e
-
-  -- THE LAW of such a code
-  pub code-step : stepOf k s ≡ piece (codedLen c) (codedValue c)
-  code-step = code-piece .0 ∙ code-piece .1
-
--- ---- `\x`
-
--- a piece of four bytes that stand for one
-abbrev Four : Next → Type 0
-Four (piece n u) = (n ≡ 4) × (length (bytesOf u) ≡ 1)
-Four (stop e) = Unit {0}
-
-x-byte : (k : Allowed) (v : ℕ) → Four (ofEscape (xByte k v))
-unfolding xByte
-x-byte k v =
-    let P : Escaped → Type 0 = λ x. Four (ofEscape x) in
-    let four : P (value (Byte v) 4) = (refl, refl) in
-    cond-in P (not (byteEscapes k) && ltb 127 v) (λ h. tt) (λ h. cond-in P (not (allowNul k) && eqb v 0) (λ z. tt) (λ z. four))
-
-backslash-x : (k : Allowed) (s : List ℕ) → getD s 1 0 ≡ 120 → Four (backslashOf k s)
-unfolding backslashOf escapeOf escapeBy letterOf xEscape
-backslash-x k s e =
-    let f : List ℕ = front s in
-    let P : Escaped → Type 0 = λ x. Four (ofEscape x) in
-    cond-eq Four (getD s 1 0) 10 (λ g. absurd (omega arith))
-    (λ g. cond-lt P (length f) 2 (λ l. tt)
-    (λ l. rw (getD-take (length s - lastLen s) s 1 0 (omega (arith, front-length s)), e)
-    (cond-in P (isBoundary f 4)
-    (λ b. cond-in P (ltb (classOf (getD f 2 0)) 16 && ltb (classOf (getD f 3 0)) 16) (λ d. x-byte k _) (λ d. tt))
-    (λ b. tt))))
-
--- where `x` stands behind the backslash
-pub code-x : (k : Allowed) (s : List ℕ) (i c : ℕ) → c ≡ backslashCode k (drop i s) → (c ≡ 0 → ⊥) → getD s (i + 1) 0 ≡ 120
-    → (codedLen c ≡ 4) × (length (bytesOf (codedValue c)) ≡ 1)
-code-x k s i c e z x =
-    subst Four (code-piece k (drop i s) c e z .1) (backslash-x k (drop i s) (getD-drop i s 1 0 ∙ x))
 
 -- ---- one law for each way to a code, at an offset
 
@@ -125,11 +86,20 @@ module _ (k : Allowed) (s : List ℕ) (i : ℕ) where
     at-other e = rw (drop-cons s i 0 l, ne-eqb _ _ e)
 
     module _ (e : getD s i 0 ≡ 92) where
-      pub at-backslash : nextCode (backslashOf k (drop i s)) ≡ backslashCode k (drop i s)
+      at-backslash : nextCode (backslashOf k (drop i s)) ≡ backslashCode k (drop i s)
       unfolding backslashCode
       at-backslash = rw (drop-cons s i 0 l, eq-eqb _ _ e)
 
-      -- a dropped line break, and n blanks behind it
+      -- 0 where the body ends
+      pub code-stops : backslashCode k (drop i s) ≡ 0 → Stopped (stepOf k (drop i s))
+      code-stops z =
+          rw (← (steps.at-backslash k s i l e)) (go (backslashOf k (drop i s)) (backslash-coded k (drop i s)) (at-backslash ∙ z))
+        where
+          go : (x : Next) → NextCoded x → nextCode x ≡ 0 → Stopped x
+          go (piece n u) h g = absurd (code-some n u (h .0) g)
+          go (stop w) h g = tt
+
+      -- a dropped line break, and n blanks after it
       module _ (f : getD s (i + 1) 0 ≡ 10) (n : ℕ) (is : n ≡ run blank (drop (i + 2) s)) where
         at-break : nextCode (lineBreakOf (drop (i + 2) s)) ≡ backslashCode k (drop i s)
         at-break = rw drop-drop at (ap nextCode (steps.is-break k (drop i s) (getD-drop i s 1 0 ∙ f))) ∙ at-backslash
@@ -138,21 +108,19 @@ module _ (k : Allowed) (s : List ℕ) (i : ℕ) where
         at-open g =
             ap nextCode (steps.break-open (drop (i + 2) s) n is (omega (arith, length-drop (i + 2) s))) ∙ at-break
 
-        pub at-blanks : (i + 2 + n ≡ length s → ⊥) → (n + 2) * 4294967296 ≡ backslashCode k (drop i s)
-        unfolding pieceCode
+        pub at-blanks : (i + 2 + n ≡ length s → ⊥) → pieceCode (n + 2) Nothing ≡ backslashCode k (drop i s)
         at-blanks g =
             let h = byte-inside s (i + 1) 10 f (omega arith) in
-            sym (add-zero ((n + 2) * 4294967296))
-            ∙ ap nextCode (steps.break-drops (drop (i + 2) s) n is (λ x. g (omega (arith, length-drop (i + 2) s))))
+            ap nextCode (steps.break-drops (drop (i + 2) s) n is (λ x. g (omega (arith, length-drop (i + 2) s))))
             ∙ at-break
 
       -- an escape, which sees what stands before `end`
       module _ (f : getD s (i + 1) 0 ≡ 10 → ⊥) (end : ℕ) (is : end ≡ length s - lastLen s) where
-        pub seen : front (drop i s) ≡ take (end - i) (drop i s)
+        seen : front (drop i s) ≡ take (end - i) (drop i s)
         unfolding tail
         seen = front-drop s i l (ap tail e) ∙ ap (λ (n : ℕ). take (n - i) (drop i s)) (sym is)
 
-        pub other : getD (drop i s) 1 0 ≡ 10 → ⊥
+        other : getD (drop i s) 1 0 ≡ 10 → ⊥
         other x = f (sym (getD-drop i s 1 0) ∙ x)
 
         pub at-cut : end ≤ i + 1 → 0 ≡ backslashCode k (drop i s)

@@ -3,6 +3,5 @@ pub mod Within
 pub mod Bodies
 pub mod Runs
 pub mod Codes
-pub mod Strides
 pub mod Raws
 pub mod Strings

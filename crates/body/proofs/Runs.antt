@@ -8,12 +8,12 @@ use native.Mathlib.Nat.{zero-add}
 use native.Mathlib.Omega.{arith}
 use borrow.Author.Tests.{eqb-true, eqb-false, ne-eqb, le-ltb}
 use lib.Dec.{eqb, ltb}
-use lib.ListN.{length, take, drop, length-append, length-drop, length-take}
-use lib.Seq.{drop-drop}
+use lib.ListN.{length, getD, take, drop, length-append, length-drop, length-take}
+use lib.Seq.{drop-drop, getD-drop}
 use Rattle.err.specs.Outcome.{between}
 use Rattle.scan.specs.Run.{run, Stops}
 use Rattle.scan.proofs.Cases.{clash}
-use Rattle.scan.proofs.Runs.{run-le, run-stops, run-past}
+use Rattle.scan.proofs.Runs.{run-le, run-stops}
 use Rattle.escape.specs.Allows.{unicode, allowNul}
 use Rattle.escape.specs.declared.Allowed.{Allowed}
 use Rattle.escape.specs.declared.Unescaped.the-variants.{Byte}
@@ -96,6 +96,20 @@ plain-stops k b t other =
 pub behind-run : (p : ℕ → Bool) (s : List ℕ) (i e : ℕ) → e ≡ i + run p (drop i s) → Stops p (drop e s)
 behind-run p s i e h = rw h (rw drop-drop at (run-stops p (drop i s)))
 
+-- where no backslash and no byte that stands for itself is, the body ends
+pub run-ends : (k : Allowed) (s : List ℕ) (i : ℕ) → (getD s i 0 ≡ 92 → ⊥) → Stops (plainByte k) (drop i s) → Stopped (stepOf k (drop i s))
+unfolding stepOf
+run-ends k s i e =
+    let z : i ≡ i + 0 = omega arith in
+    go (drop i s) (λ x. e (ap (λ (n : ℕ). getD s n 0) z ∙ sym (getD-drop i s 0 0) ∙ x))
+  where
+    go : (t : List ℕ) → (getD t 0 0 ≡ 92 → ⊥) → Stops (plainByte k) t → Stopped (stepOf k t)
+    go [] e h = tt
+    go (b ∷ t) e h = rw (ne-eqb b 92 e) (plain-stops k b h e)
+
+pub other-stops : (k : Allowed) (s : List ℕ) (i : ℕ) → (getD s i 0 ≡ 92 → ⊥) → i ≡ i + run (plainByte k) (drop i s) → Stopped (stepOf k (drop i s))
+other-stops k s i e h = run-ends k s i e (behind-run (plainByte k) s i i h)
+
 module _ (step : List ℕ → Next) (p : ℕ → Bool) (law : (b : ℕ) (s : List ℕ) → p b ≡ true → step (b ∷ s) ≡ piece 1 (Byte b)) where
   -- THE LAW: a body is its front run, byte for byte, and the body of what follows.
   pub run-body : (s : List ℕ) → push (run p s) (take (run p s) s) (bodyBy step (drop (run p s) s)) ≡ bodyBy step s
@@ -131,7 +145,7 @@ module _ (step : List ℕ → Next) (p : ℕ → Bool) (law : (b : ℕ) (s : Lis
       whole : push (i + n) (v ++ take n (drop i s)) (bodyBy step (drop (i + n) s)) ≡ push i v (bodyBy step (drop i s))
       whole = sym (bodies.push-push i n v (take n (drop i s)) (bodyBy step (drop (i + n) s))) ∙ ap (push i v) (rw drop-drop at here)
 
-  -- the same where the loop knows where the run ends
+  -- for a loop that knows where the run ends
   pub passed-to : {s : List ℕ} {i : ℕ} {v : List ℕ} (e : ℕ) → bodies.Passed step s i v → e ≡ i + run p (drop i s)
       → bodies.Passed step s e (v ++ take (e - i) (drop i s))
   passed-to {s} {i} {v} e q h =
@@ -153,6 +167,3 @@ module _ (k : Allowed) (s : List ℕ) (e : ℕ) (is : e ≡ run (plainByte k) s)
 
   pub front-length : e ≡ length (take e s)
   front-length = omega (arith, length-take e s, run-le (plainByte k) s)
-
-  pub front-stops : e ≡ e + run (plainByte k) (drop e s)
-  front-stops = omega (arith, run-past (plainByte k) e s (omega arith))

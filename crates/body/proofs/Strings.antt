@@ -89,8 +89,8 @@ module _ (k : Allowed) (offset : ℕ) (text : List ℕ) where
 
 -- ---- bounds
 
--- In a text of n bytes: the value has no more bytes than stand behind the offset and before what closes the string, the suffix starts
--- behind that, and a refusal is in the text.
+-- In a text of n bytes: the value has no more bytes than stand after the offset and before what closes the string, the suffix starts
+-- after that, and a refusal is in the text.
 abbrev pub QuoteIn : ℕ → ℕ → Quote → Type 0
 QuoteIn n offset (quoted r start len) = (offset + len + closing r ≤ start) × (start ≤ n)
 QuoteIn n offset (refused num p) = RefusedIn n num p

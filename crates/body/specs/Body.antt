@@ -1,4 +1,4 @@
--- A body, step by step: the bytes behind the opening quote, to the end of the text.
+-- A body, step by step: the bytes after the opening quote, to the end of the text.
 -- Assumes nothing.
 use Rattle.err.specs.Outcome.{Ends}
 use Prim.Native.Nat.{ℕ, zero, suc, _+_, _-_, _≤_}
@@ -20,12 +20,12 @@ pub record Body : Type 0 where
 abbrev pub push : ℕ → List ℕ → Body → Body
 push n v b = record { at = n + b .at; value = v ++ b .value; end = b .end }
 
--- a body by its first step, and by the body behind the n bytes of a piece
+-- a body by its first step, and by the body after the n bytes of a piece
 abbrev pub follow : Next → (ℕ → Body) → Body
 follow (piece n u) rest = push n (bytesOf u) (rest n)
 follow (stop e) rest = record { at = 0; value = []; end = e }
 
--- litrs's loops, `i += len`: steps from the front, where the next n bytes belong to a piece that began before. No piece begins behind the
+-- litrs's loops, `i += len`: steps from the front, where the next n bytes belong to a piece that began before. No piece begins after the
 -- last byte.
 unfoldable pub bodyFrom : (List ℕ → Next) → ℕ → List ℕ → Body
 bodyFrom step n [] = follow (step []) (λ m. record { at = 0; value = []; end = close })

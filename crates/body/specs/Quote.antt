@@ -1,4 +1,4 @@
--- What litrs's `unescape_string` and `scan_raw_string` (escape.rs) answer for a whole text.
+-- What litrs's `unescape_string` and `scan_raw_string` (escape.rs) return for a whole text.
 -- Assumes nothing.
 use Prim.Native.Nat.{ℕ, _+_}
 use mathlib.Core.Bool.{cond}
@@ -22,7 +22,7 @@ pub data Quote : Type 0 where
   quoted : Rawness → ℕ → ℕ → Quote
   refused : ℕ → Place → Quote
 
--- 01's numbers and values for each case of the answer
+-- 01's numbers and values for each case of the result
 abbrev pub quoteOf : Quoted → Quote
 quoteOf (answer.Lit l) = quoted (hashesOf (l .hashes)) (l .«start_suffix») (l .«value_len»)
 quoteOf (answer.Refused k s) = refused (numberOf k) (placeOf s)
@@ -38,7 +38,7 @@ suffixed text r n len =
     cond (eqb (suffixFault (drop n text)) 0) (quoted r n len)
     (refused (suffixFault (drop n text)) (between n (n + 1)))
 
--- behind the loop: a body that ends at an offset has its suffix behind what closes it, or its refusal counts from there
+-- after the loop: a body that ends at an offset has its suffix after what closes it, or its refusal counts from there
 abbrev pub afterEnd : List ℕ → Rawness → ℕ → ℕ → End → Quote
 afterEnd text r at len close = suffixed text r (at + closing r) len
 afterEnd text r at len (refuse num p) = refused num (shift at p)
@@ -51,7 +51,7 @@ afterBody text r offset b = afterEnd text r (offset + b .at) (length (b .value))
 unfoldable pub stringOf : Allowed → ℕ → List ℕ → Quote
 stringOf k offset text = afterBody text notRaw offset (body k (drop offset text))
 
--- of a text whose raw body starts at an offset, behind h hashes and a quote
+-- of a text whose raw body starts at an offset, after h hashes and a quote
 unfoldable pub rawFrom : Allowed → ℕ → ℕ → List ℕ → Quote
 rawFrom k h offset text = afterBody text (raw h) offset (rawBody k h (drop offset text))
 

@@ -49,8 +49,13 @@ abbrev pub ofEscape : Escaped → Next
 ofEscape (value u n) = piece n u
 ofEscape (bad num p) = stop (refuse num p)
 
+-- the refusal of a refused escape; one that stands for a value has none, and 3 without a span stands for it (for a contract between functions)
+abbrev pub refusedEscape : Escaped → Next
+refusedEscape (value u n) = stop (refuse 3 none)
+refusedEscape (bad num p) = stop (refuse num p)
+
 -- 01, Escapes: "A backslash before LF drops itself and all following spaces, tabs and LFs; a text that ends there is 30". s is what stands
--- behind the LF.
+-- after the LF.
 unfoldable pub lineBreakOf : List ℕ → Next
 lineBreakOf s =
     cond (eqb (run blank s) (length s)) (stop (refuse 30 none))
@@ -69,7 +74,7 @@ plainOf k b =
     (cond (not (unicode k) && ltb 127 b) (stop (refuse 25 (between 0 1)))
     (piece 1 (Byte b)))))
 
--- `match input.as_bytes()[i]` of `unescape_string`, on what is left of the text; behind the last byte 30
+-- `match input.as_bytes()[i]` of `unescape_string`, on what is left of the text; after the last byte 30
 unfoldable pub stepOf : Allowed → List ℕ → Next
 stepOf k [] = stop (refuse 30 none)
 stepOf k (b ∷ s) = cond (eqb b 92) (backslashOf k (b ∷ s)) (plainOf k b)
@@ -84,7 +89,7 @@ rawByte k h b s =
     (cond (leb h (run (only 35) s)) (stop close) (piece 1 (Byte 34)))
     (plainOf k b)
 
--- one turn of `scan_raw_string`'s loop, on what is left of the text; behind the last byte 29
+-- one turn of `scan_raw_string`'s loop, on what is left of the text; after the last byte 29
 unfoldable pub rawStepOf : Allowed → ℕ → List ℕ → Next
 rawStepOf k h [] = stop (refuse 29 none)
 rawStepOf k h (b ∷ s) = rawByte k h b s

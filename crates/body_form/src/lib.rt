@@ -1,20 +1,16 @@
 // The value of a quoted literal as its settled form writes it, many bytes at once: a slice of it, a character, a whole body.
-use body::Stride;
 use escape::Allowed;
 use escape::Unescaped;
 use quoting::Style;
 ghost use mathlib.Core.Path.{_≡_};
 ghost use mathlib.Core.Bool.{cond};
-ghost use Prim.Native.Nat.{_+_, _-_, _*_, _≤_, _<_, min};
-ghost use lib.ListN.{length, getD, drop};
+ghost use Prim.Native.Nat.{_+_, _-_, _*_, _≤_, min};
+ghost use lib.ListN.{length, drop};
 ghost use Rattle.scan.specs.Run.{run};
 ghost use Rattle.buffer.specs.Buffer.{Wrote};
 ghost use Rattle.utf8.specs.Utf8.{Scalar, encode};
-ghost use Rattle.utf8.specs.Cut.{lastLen};
 ghost use Rattle.escape.specs.Escape.{bytesOf, Valid};
 ghost use Rattle.body.specs.Body.{body};
-ghost use Rattle.body.specs.Step.{backslashOf};
-ghost use Rattle.body.specs.Stride.{nextAt, valueIn};
 ghost use Rattle.quoting.specs.Styled.{styledForms, extraOf, extrasOf, itself};
 
 // Whether the form of a byte is the byte.
@@ -61,7 +57,7 @@ fn block_run(s: &[u8], style: Style) -> u8
     m
 }
 
-// The same of the bytes from an offset, or `stop` where that is nearer, byte by byte.
+// Where that run ends from an offset, or `stop` where that is nearer, byte by byte.
 fn byte_run(s: &[u8], from: usize, stop: usize, style: Style) -> usize
     requires { ⌜ (from ≤ stop) × (stop ≤ length (now s)) ⌝ }
     ensures { λ r. ⌜ r ≡ from + min (stop - from) (run (itself (style .wide) (style .quote)) (drop from (now (s .entry)))) ⌝ }
@@ -113,7 +109,7 @@ fn extra(b: u8, style: Style) -> u8
     (quoting::form_len(b, style) - 1) as u8
 }
 
-// The same of all the bytes of a slice. With no exit on the way and a sum of one byte the compiler makes vectors of it.
+// How many more all the bytes of a slice have. With no exit on the way and a sum of one byte the compiler makes vectors of it.
 fn extras(s: &[u8], style: Style) -> u8
     requires { ⌜ length (now s) ≤ 64 ⌝ }
     ensures { λ r. ⌜ r ≡ extrasOf (style .wide) (style .quote) (now (s .entry)) ⌝ }
@@ -142,7 +138,7 @@ pub fn forms_len(s: &[u8], style: Style) -> usize
     n + extras(&s[i..], style) as usize
 }
 
-// The bytes of a slice, each behind the one before: a run of those that are their own forms at once.
+// The bytes of a slice, one after another: a run of those that are their own forms at once.
 pub fn put_forms(out: &mut [u8], s: &[u8], style: Style) -> usize
     requires { ⌜ length (styledForms (style .wide) (style .quote) (now s)) ≤ length (now out) ⌝ }
     ensures { λ r. ⌜ Wrote (styledForms (style .wide) (style .quote) (now (s .entry))) r (now (out .entry)) (now (out .exit)) ⌝ }
@@ -220,7 +216,7 @@ fn put_value(out: &mut [u8], u: Unescaped, style: Style) -> usize
     }
 }
 
-// How long the value of a quoted body is in the form: s is what stands behind the opening quote, to the end of the text.
+// How long the value of a quoted body is in the form: s is what stands after the opening quote, to the end of the text.
 pub fn body_len(s: &[u8], k: Allowed, style: Style) -> usize
     requires { ⌜ length (now s) ≤ 65536 ⌝ }
     ensures { λ r. ⌜ (r ≡ length (styledForms (style .wide) (style .quote) (body k (now (s .entry)) .value))) × (r ≤ 4 * length (now (s .entry))) ⌝ }
@@ -247,41 +243,6 @@ pub fn body_len(s: &[u8], k: Allowed, style: Style) -> usize
     }
 }
 
-// The piece that the backslash at an offset starts, as the form has it, written to the front of out.
-fn put_piece(out: &mut [u8], s: &[u8], at: usize, end: usize, k: Allowed, style: Style) -> Stride
-    requires { ⌜ (getD (now s) at 0 ≡ 92) × ((length (now s) < 4294967296) × (end ≡ length (now s) - lastLen (now s))) × (length (styledForms (style .wide) (style .quote) (valueIn (backslashOf k (drop at (now s))))) ≤ length (now out)) ⌝ }
-    ensures { λ r. ⌜ (r .next ≡ nextAt at (backslashOf k (drop at (now (s .entry))))) × Wrote (styledForms (style .wide) (style .quote) (valueIn (backslashOf k (drop at (now (s .entry)))))) (r .value) (now (out .entry)) (now (out .exit)) ⌝ }
-{
-    let l = escape_code::letter_at(s, at, end);
-    if l != 0 {
-        return Stride {
-            next: at + 2,
-            value: quoting::put_form(out, l, style),
-        };
-    }
-    let e = body::break_end(s, at);
-    if e != 0 {
-        return Stride { next: e, value: 0 };
-    }
-    let x = escape_code::x_at(s, at, end, k);
-    if x != 0 {
-        return Stride {
-            next: at + 4,
-            value: quoting::put_form(out, escape_code::code_byte(x), style),
-        };
-    }
-    // what is left is by `u`, or `\0`, or refused
-    let c = body::code_at(s, at, end, k);
-    if c == 0 {
-        return Stride { next: 0, value: 0 };
-    }
-    let n = put_value(out, escape_code::code_value(c), style);
-    Stride {
-        next: at + escape_code::code_len(c),
-        value: n,
-    }
-}
-
 // The value of a quoted body, piece by piece.
 pub fn put_body(out: &mut [u8], s: &[u8], k: Allowed, style: Style) -> usize
     requires { ⌜ (length (now s) ≤ 65536) × (length (styledForms (style .wide) (style .quote) (body k (now s) .value)) ≤ length (now out)) ⌝ }
@@ -292,12 +253,12 @@ pub fn put_body(out: &mut [u8], s: &[u8], k: Allowed, style: Style) -> usize
     let mut at: usize = 0;
     loop {
         if scan::byte_at(s, i) == b'\\' {
-            let t = put_piece(&mut out[at..], s, i, end, k, style);
-            if t.next == 0 {
+            let c = body::code_at(s, i, end, k);
+            if c == 0 {
                 return at;
             }
-            at += t.value;
-            i = t.next;
+            at += put_value(&mut out[at..], escape_code::code_value(c), style);
+            i += escape_code::code_len(c);
             continue;
         }
         let e = plain_run::plain_end(s, i, k);

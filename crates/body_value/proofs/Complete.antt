@@ -30,7 +30,7 @@ use Rattle.body.proofs.Runs.{char-step}
 
 -- ---- a text without its last character
 
--- the text without its last character, where that comes behind an escape
+-- the text without its last character, where that comes after an escape
 front-append : (t r : List ℕ) → 0 < length r → tail (getD r 0 0) ≡ false → front (t ++ r) ≡ t ++ front r
 front-append t r h f =
     let at : getD (t ++ r) (length t) 0 ≡ getD r 0 0 = ap (λ (n : ℕ). getD (t ++ r) n 0) (sym (add-zero (length t))) ∙ getD-append-add t r 0 0 in
@@ -78,7 +78,7 @@ module _ (k : Allowed) where
       ∙ ap (λ (s : List ℕ). push (length t) (bytesOf u) (body k s)) (drop-append-seam t r)
       ∙ ap (push (length t) (bytesOf u)) b
 
-  -- THE LAW: a content of pieces, with a quote behind it, is read to that quote, with the value that the pieces give.
+  -- THE LAW: a content of pieces, with a quote after it, is read to that quote, with the value that the pieces give.
   pub complete : {c v : List ℕ} → Content k c v → (suf : List ℕ) → Aligned (c ++ (34 ∷ suf))
       → body k (c ++ (34 ∷ suf)) ≡ record { at = length c; value = v; end = close }
   unfolding stepOf plainOf

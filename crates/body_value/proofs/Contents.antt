@@ -85,14 +85,14 @@ cut p r h u =
 pub cut-at-ascii : (p : List ℕ) (b : ℕ) (r : List ℕ) → b < 0x80 → Utf8 (p ++ (b ∷ r)) → Utf8 p × Utf8 r
 cut-at-ascii p b r h u = let c = cut p (b ∷ r) (λ e. omega arith) u in (c .0, utf8-behind-ascii b r h (c .1))
 
--- what stands before an escape and what stands behind it
+-- what stands before an escape and what stands after it
 around-escape : {k : Allowed} {t : List ℕ} {u : Unescaped} → Esc k t u → (p r : List ℕ) → Utf8 (p ++ (t ++ r)) → Utf8 p × Utf8 r
 unfolding tail
 around-escape {t = t} x p r w =
     let a = cut p (t ++ r) (λ e. omega (arith, first-two r x .2)) w in
     (a .0, cut t r (eqb-false (getD r 0 0 / 64) 2 (after r x (aligned (t ++ r) (a .1)))) (a .1) .1)
 
--- what stands behind spaces, tabs and LFs
+-- what stands after spaces, tabs and LFs
 behind-blanks : (ws r : List ℕ) → All blank ws → Utf8 (ws ++ r) → Utf8 r
 behind-blanks [] r a u = u
 behind-blanks (b ∷ ws) r a u = behind-blanks ws r (a .1) (cut-at-ascii [] b (ws ++ r) (low (blank-cases b (a .0))) u .1)

@@ -86,14 +86,6 @@ module _ (k : Allowed) (s : List ℕ) (n : ℕ) where
   pub escape-low : (b : ℕ) → byteEscapes k ≡ false → getD s 0 0 ≡ 92 → stepOf k s ≡ piece n (Byte b) → b < 128
   escape-low b u f e = told (Byte b) e .0 f .1 u
 
-  -- a byte value is below 256 where the text's bytes are
-  pub byte-small : (b : ℕ) → getD s 0 0 < 256 → stepOf k s ≡ piece n (Byte b) → b < 256
-  byte-small b h e =
-      let r = told (Byte b) e in
-      cond-eq (λ (x : ℕ). b < 256) (getD s 0 0) 92 {x = 0} {y = 0}
-      (λ f. r .0 f .0)
-      (λ f. let z : b ≡ getD s 0 0 = cc (r .1 f) in omega arith)
-
 -- ---- a body that is as long as what it stands for
 
 -- a piece that is as long as what it stands for is its own bytes

@@ -1,17 +1,17 @@
 -- What is accepted as a bool is `true` or `false`, which of the two, and what a refusal says.
 -- Assumes nothing.
-use mathlib.Core.Path.{_≡_, refl, sym, subst}
+use mathlib.Core.Path.{_≡_, refl, subst}
 use mathlib.Core.Logic.{_⊎_, inl, inr}
-use mathlib.Core.Bool.{Bool, true, false, _||_}
+use mathlib.Core.Bool.{Bool, true, false}
 use mathlib.Core.List.{List}
 use Prim.Native.Nat.{ℕ}
 use native.Mathlib.Omega.{arith}
 use lib.ListN.{length}
 use Rattle.err.specs.Outcome.{Place, Values, Outcome, refused, accepted, truth, RefusedIn}
 use Rattle.scan.specs.Same.{same}
-use Rattle.scan.proofs.Cases.{cond-in, clash}
+use Rattle.scan.proofs.Cases.{cond-in}
 use Rattle.scan.proofs.Sames.{same-eq}
-use Rattle.boolean.specs.Bool.{trueText, falseText, isBool, boolRead}
+use Rattle.boolean.specs.Bool.{trueText, falseText, boolRead}
 
 -- what holds of a text of which this is the answer
 abbrev Answer : List ℕ → Outcome → Type 0
@@ -30,13 +30,3 @@ refused-in s h = subst (Answer s) h (answer s)
 pub sound : (s : List ℕ) {k e : ℕ} {vs : Values} → boolRead s ≡ accepted k e vs
     → ((s ≡ falseText) ⊎ (s ≡ trueText)) × (k ≡ 1) × (e ≡ length s) × (t : Bool) × (vs ≡ truth t)
 sound s h = subst (Answer s) h (answer s)
-
--- a bool's truth is whether it is `true`
-pub bool-truth : (s : List ℕ) → isBool s ≡ true → boolRead s ≡ accepted 1 (length s) (truth (same s trueText))
-unfolding isBool boolRead
-bool-truth s h = by-tests (same s trueText) (same s falseText) refl refl h
-  where
-    by-tests : (t f : Bool) → same s trueText ≡ t → same s falseText ≡ f → (t || f) ≡ true → boolRead s ≡ accepted 1 (length s) (truth (same s trueText))
-    by-tests true f e g h = subst (λ (x : List ℕ). boolRead x ≡ accepted 1 (length x) (truth (same x trueText))) (sym (same-eq s trueText e)) refl
-    by-tests false true e g h = subst (λ (x : List ℕ). boolRead x ≡ accepted 1 (length x) (truth (same x trueText))) (sym (same-eq s falseText g)) refl
-    by-tests false false e g h = clash h refl

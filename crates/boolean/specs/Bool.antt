@@ -1,7 +1,7 @@
--- What litrs's `BoolLit::parse` answers (01, Bools).
+-- What litrs's `BoolLit::parse` returns (01, Bools).
 -- Assumes nothing.
 use Prim.Native.Nat.{ℕ}
-use mathlib.Core.Bool.{Bool, true, false, cond, _||_}
+use mathlib.Core.Bool.{true, false, cond}
 use mathlib.Core.List.{List, [], _∷_}
 use lib.ListN.{length}
 use Rattle.scan.specs.Same.{same}
@@ -14,10 +14,6 @@ trueText = 116 ∷ 114 ∷ 117 ∷ 101 ∷ []
 -- `false`
 abbrev pub falseText : List ℕ
 falseText = 102 ∷ 97 ∷ 108 ∷ 115 ∷ 101 ∷ []
-
--- 01: "Exactly `true` or `false`"
-unfoldable pub isBool : List ℕ → Bool
-isBool s = same s trueText || same s falseText
 
 -- 01, Bools: "Exactly `true` or `false` ..; entry 1 on no bytes gives 3. The start of suffix is the text's end."
 unfoldable pub boolRead : List ℕ → Outcome

@@ -2,6 +2,4 @@ pub mod Within
 pub mod Start
 pub mod Exact
 pub mod Values
-pub mod OneChar
 pub mod Examples
-pub mod Facts

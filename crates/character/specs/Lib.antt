@@ -1,3 +1,2 @@
 pub mod Single
 pub mod Parts
-pub mod Alone

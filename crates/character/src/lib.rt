@@ -5,16 +5,16 @@ use err::Reading;
 use err::Span;
 use escape::Escape;
 use escape::Unescaped;
+use scan::ByteSet;
 use single_quote::Inner;
 use single_quote::Quote;
-use utf8::Decoded;
 ghost use mathlib.Core.Path.{_≡_};
-ghost use Prim.Native.Nat.{_≤_, _<_};
+ghost use Prim.Native.Nat.{_-_, _≤_, _<_};
 ghost use lib.ListN.{length};
 ghost use Rattle.err.specs.Reading.{outcomeOf};
 ghost use Rattle.single_quote.specs.Content.{innerOf};
-ghost use Rattle.character.specs.Alone.{plainFirst, quoteAlone, pairAlone, aloneIn};
-ghost use Rattle.character.specs.Single.{singleOf, suffixedAt, closedAt, scalarOf, escapedAt, firstAt, singleAt, readBy};
+ghost use Rattle.escape.specs.Escape.{escapedOf};
+ghost use Rattle.character.specs.Single.{singleOf, refusalOf, suffixedAt, closedAt, scalarOf, FaultEnds, escapeFault, escapedAt, firstAt, contentRefused, singleAt, readBy};
 
 // The value and where the suffix starts, or why a text is no such literal.
 pub enum Single {
@@ -22,14 +22,7 @@ pub enum Single {
     Refused(ParseErrorKind, Span),
 }
 
-// What the bytes of a short text tell of its reading, before it is checked: a char without a suffix, a refusal, or nothing.
-pub enum Told {
-    Char(u32),
-    Refused(ParseErrorKind, Span),
-    Unknown,
-}
-
-// Behind the closing quote: the suffix, whose fault spans its first byte.
+// After the closing quote: the suffix, whose fault spans its first byte.
 fn suffixed(text: &[u8], start: usize, value: u32, q: Quote) -> Single
     requires { ⌜ start ≤ length (now text) ⌝ }
     ensures { λ r. ⌜ singleOf q r ≡ suffixedAt q (now (text .entry)) start value ⌝ }
@@ -45,7 +38,7 @@ fn suffixed(text: &[u8], start: usize, value: u32, q: Quote) -> Single
     Single::Refused(kind, Span::Between(start, start + 1))
 }
 
-// Behind the character: the closing quote, or a later one, or none.
+// After the character: the closing quote, or a later one, or none.
 fn closed(text: &[u8], at: usize, value: u32, q: Quote) -> Single
     requires { ⌜ at ≤ length (now text) ⌝ }
     ensures { λ r. ⌜ singleOf q r ≡ closedAt q (now (text .entry)) at value ⌝ }
@@ -53,12 +46,8 @@ fn closed(text: &[u8], at: usize, value: u32, q: Quote) -> Single
     if scan::byte_at(text, at) == b'\'' {
         return suffixed(text, at + 1, value, q);
     }
-    // one byte too many needs no search
-    if scan::byte_at(text, at + 1) == b'\'' {
-        return Single::Refused(q.overlong(), Span::Nowhere);
-    }
     let rest = &text[at..];
-    if scan::run_except(rest, b'\'') == rest.len() {
+    if scan::run_len(rest, ByteSet::Except(b'\'')) == rest.len() {
         return Single::Refused(q.unterminated(), Span::Nowhere);
     }
     Single::Refused(q.overlong(), Span::Nowhere)
@@ -75,24 +64,27 @@ fn scalar(u: Unescaped) -> u32
     }
 }
 
-// An escape, which sees the text to its end: one letter or by `x`, which come as numbers, or any other.
+// An escape's refusal, counted from the text's first byte. An escape that stands for a value has none; 3 stands for it, and no caller hands one in.
+fn refused_escape(found: Escape, at: usize) -> Inner
+    requires { ⌜ FaultEnds (18446744073709551615 - at) (escapedOf found) ⌝ }
+    ensures { λ r. ⌜ innerOf r ≡ escapeFault at (escapedOf found) ⌝ }
+{
+    match found {
+        Escape::Value(_, _) => Inner::Refused(ParseErrorKind::InvalidLiteral, Span::Nowhere),
+        Escape::Bad(kind, span) => Inner::Refused(kind, err::offset_span(span, at)),
+    }
+}
+
+// An escape, which sees the text to its end.
 fn escaped(text: &[u8], at: usize, q: Quote) -> Inner
     requires { ⌜ at < length (now text) ⌝ }
     ensures { λ r. ⌜ innerOf r ≡ escapedAt q (now (text .entry)) at ⌝ }
 {
-    let l = escape_code::letter_at(text, at, text.len());
-    if l != 0 {
-        return Inner::Value(l as u32, 2);
-    }
-    let x = escape_code::x_at(text, at, text.len(), q.allowed());
-    if x != 0 {
-        return Inner::Value(scalar(escape_code::code_value(x)), escape_code::code_len(x));
-    }
     let found = escape::unescape(&text[at..], q.allowed());
-    match found {
-        Escape::Value(u, n) => Inner::Value(scalar(u), n),
-        Escape::Bad(kind, span) => Inner::Refused(kind, err::offset_span(span, at)),
-    }
+    let Escape::Value(u, n) = found else {
+        return refused_escape(found, at);
+    };
+    Inner::Value(scalar(u), n)
 }
 
 // The first byte between the quotes.
@@ -116,73 +108,14 @@ fn first(text: &[u8], at: usize, q: Quote) -> Inner
     single_quote::plain(text, at, q)
 }
 
-// Whether the first byte between the quotes is no quote, no backslash, and not LF, tab or CR.
-fn is_plain_first(b: u8) -> bool
-    ensures { λ r. ⌜ r ≡ plainFirst b ⌝ }
+// The refusal of what stands between the quotes is the literal's. Content that is good has none; 3 stands for it, and no caller hands it in.
+fn refused_content(content: Inner) -> Single
+    ensures { λ r. ⌜ r ≡ contentRefused content ⌝ }
 {
-    if b == b'\'' {
-        return false;
+    match content {
+        Inner::Value(_, _) => Single::Refused(ParseErrorKind::InvalidLiteral, Span::Nowhere),
+        Inner::Refused(kind, span) => Single::Refused(kind, span),
     }
-    if b == b'\\' {
-        return false;
-    }
-    !single_quote::is_special(b)
-}
-
-// `'''`: the quote in the middle was not escaped.
-fn quote_alone(text: &[u8]) -> Told
-    ensures { λ r. ⌜ r ≡ quoteAlone (now (text .entry)) ⌝ }
-{
-    if text.len() != 3 {
-        return Told::Unknown;
-    }
-    if text[1] != b'\'' {
-        return Told::Unknown;
-    }
-    Told::Refused(ParseErrorKind::UnescapedSingleQuote, Span::Between(1, 2))
-}
-
-// Two ASCII characters between two quotes: one too many, unless the second is a quote.
-fn pair_alone(text: &[u8]) -> Told
-    ensures { λ r. ⌜ r ≡ pairAlone (now (text .entry)) ⌝ }
-{
-    if text.len() != 4 {
-        return Told::Unknown;
-    }
-    if 127 < text[1] {
-        return Told::Unknown;
-    }
-    if 127 < text[2] {
-        return Told::Unknown;
-    }
-    if text[2] == b'\'' {
-        return Told::Unknown;
-    }
-    Told::Refused(ParseErrorKind::OverlongCharLiteral, Span::Nowhere)
-}
-
-// What the few bytes of a text between two quotes tell: one character that stands for itself, or one of the two refusals above.
-pub fn alone(text: &[u8]) -> Told
-    ensures { λ r. ⌜ r ≡ aloneIn (now (text .entry)) ⌝ }
-{
-    if text.len() < 3 {
-        return Told::Unknown;
-    }
-    if text[0] != b'\'' {
-        return Told::Unknown;
-    }
-    let last = text.len() - 1;
-    if text[last] != b'\'' {
-        return Told::Unknown;
-    }
-    if !is_plain_first(text[1]) {
-        return quote_alone(text);
-    }
-    let found = utf8::only_char(&text[1..last]);
-    let Decoded::Char { scalar, .. } = found else {
-        return pair_alone(text);
-    };
-    Told::Char(scalar)
 }
 
 // Of a text that starts with the quote.
@@ -194,9 +127,19 @@ fn parse_impl(text: &[u8], q: Quote) -> Single
         return Single::Refused(q.unterminated(), Span::Nowhere);
     }
     let content = first(text, at, q);
-    match content {
-        Inner::Value(value, n) => closed(text, at + n, value, q),
-        Inner::Refused(kind, span) => Single::Refused(kind, span),
+    let Inner::Value(value, n) = content else {
+        return refused_content(content);
+    };
+    closed(text, at + n, value, q)
+}
+
+// The refusal as a reading. A literal has none; 3 stands for it, and no caller hands one in.
+fn refusal(lit: Single) -> Reading
+    ensures { λ r. ⌜ outcomeOf r ≡ refusalOf lit ⌝ }
+{
+    match lit {
+        Single::Value(_, _) => err::perr_nowhere(ParseErrorKind::InvalidLiteral),
+        Single::Refused(kind, span) => Reading::Refused(kind, span),
     }
 }
 
@@ -210,8 +153,8 @@ pub fn parse(text: &[u8], q: Quote) -> Reading
         return q.refused_start();
     }
     let lit = parse_impl(text, q);
-    match lit {
-        Single::Value(value, start) => q.reading(value, start),
-        Single::Refused(kind, span) => err::perr_at(kind, span),
-    }
+    let Single::Value(value, start) = lit else {
+        return refusal(lit);
+    };
+    q.reading(value, start)
 }

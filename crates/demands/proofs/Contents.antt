@@ -17,15 +17,13 @@ use Rattle.parse.specs.Sets.{blank}
 use Rattle.parse.proofs.Classes.{blank-is}
 use Rattle.escape.specs.Escape.{bytesOf}
 use Rattle.escape.specs.Pieces.{Esc}
-use Rattle.escape.specs.declared.Allowed.{Allowed}
 use Rattle.escape.specs.declared.Unescaped.{Unescaped}
 use Rattle.escape.specs.declared.Unescaped.the-variants as unescaped
+use Rattle.escape.specs.declared.Allowed.{Allowed}
+use Rattle.escape.specs.declared.Allowed.the-variants.{Text, Bytes, C}
 use Rattle.body.specs.Pieces.{Char, Content, RawChar, ClosesAt, RawContent}
 use Rattle.body.specs.Pieces as pieces
-use Rattle.string.specs.String.{allowedIn}
 use Rattle.string.specs.Parts.{hashes}
-use Rattle.string.specs.declared.Kind.{Kind}
-use Rattle.string.specs.declared.Kind.the-variants.{Text, Bytes, C}
 use Rattle.grammar.specs.Notation.{Class, byte, _∪_, all, times}
 use Rattle.grammar.specs.Escapes.{WHITESPACE, STRING-CONTINUE}
 use Rattle.grammar.specs.Quoted.{except, ascii-except, Pieces, STRING-PIECE, BYTE-STRING-PIECE, C-STRING-PIECE, closing}
@@ -36,7 +34,7 @@ use Rattle.demands.proofs.Escapes.{Seven, Eight, esc-seven, seven-esc, 
 use Rattle.demands.proofs.Escapes as escapes
 
 -- the pieces of a kind, by the Reference
-abbrev pub PIECE : Kind → List ℕ → List ℕ → List ℕ → Type 0
+abbrev pub PIECE : Allowed → List ℕ → List ℕ → List ℕ → Type 0
 PIECE Text = STRING-PIECE
 PIECE Bytes = BYTE-STRING-PIECE
 PIECE C = C-STRING-PIECE
@@ -84,7 +82,7 @@ marks-not b q s r = rw (ne-eqb b 34 q, ne-eqb b 92 s, ne-eqb b 13 r) tt
 
 -- ---- one piece
 
-view-to : (k : Kind) {t w r : List ℕ} → PIECE k t w r → View (allowedIn k) t w r
+view-to : (k : Allowed) {t w r : List ℕ} → PIECE k t w r → View k t w r
 view-to Text (quoted.char c e t f) =
     let no = none-of (except Marks) c in
     char c (record { backslash = no 92 t; quote = no 34 t; cr = no 13 t; nul = refl; ascii = refl }) e f
@@ -109,37 +107,37 @@ view-to C (quoted.continue c e) = continue-to c e
 positive : (v : ℕ) → eqb v 0 ≡ false → 1 ≤ v
 positive v e = let n = eqb-false v 0 e in by-lt 0 v (λ h. h) (λ h. absurd (n (omega arith)))
 
-escape-from : (k : Kind) {t w : List ℕ} (r : List ℕ) {u : Unescaped} → Esc (allowedIn k) t u → w ≡ bytesOf u → PIECE k t w r
+escape-from : (k : Allowed) {t w : List ℕ} (r : List ℕ) {u : Unescaped} → Esc k t u → w ≡ bytesOf u → PIECE k t w r
 escape-from Text {t} {w} r x e = go (esc-seven refl x) e
   where
-    go : {u : Unescaped} → Seven (allowedIn Text) t u → w ≡ bytesOf u → STRING-PIECE t w r
+    go : {u : Unescaped} → Seven Text t u → w ≡ bytesOf u → STRING-PIECE t w r
     go (escapes.quote v q) e = quoted.quote v q (e ∙ sym (quote-bytes q))
     go (escapes.ascii v q z) e = quoted.ascii v q (e ∙ sym (ascii-bytes q))
     go (escapes.unicode v u q z) e = quoted.unicode v q e
 escape-from Bytes {t} {w} r x e = go (esc-eight refl x) e
   where
-    go : {u : Unescaped} → Eight (allowedIn Bytes) t u → w ≡ bytesOf u → BYTE-STRING-PIECE t w r
+    go : {u : Unescaped} → Eight Bytes t u → w ≡ bytesOf u → BYTE-STRING-PIECE t w r
     go (escapes.byte v q z) e = quoted.escape v q e
     go (escapes.unicode v u q z) e = clash u refl
 escape-from C {t} {w} r x e = go (esc-eight refl x) e
   where
-    go : {u : Unescaped} → Eight (allowedIn C) t u → w ≡ bytesOf u → C-STRING-PIECE t w r
+    go : {u : Unescaped} → Eight C t u → w ≡ bytesOf u → C-STRING-PIECE t w r
     go (escapes.byte v q z) e = quoted.escape v q (positive v z) e
     go (escapes.unicode v u q z) e = quoted.unicode v q (positive v z) e
 
-char-from : (k : Kind) {t w : List ℕ} (r : List ℕ) (b : ℕ) → Char (allowedIn k) b → t ≡ b ∷ [] → w ≡ b ∷ [] → PIECE k t w r
+char-from : (k : Allowed) {t w : List ℕ} (r : List ℕ) (b : ℕ) → Char k b → t ≡ b ∷ [] → w ≡ b ∷ [] → PIECE k t w r
 char-from Text r b c e f = quoted.char b e (marks-not b (c .quote) (c .backslash) (c .cr)) f
 char-from Bytes r b c e f = quoted.ascii b e (is-below (except Marks) b (c .ascii) (marks-not b (c .quote) (c .backslash) (c .cr))) f
 char-from C r b c e f = quoted.char b e (rw (ne-eqb b 34 (c .quote), ne-eqb b 92 (c .backslash), ne-eqb b 13 (c .cr), c .nul) tt) f
 
-continue-piece : (k : Kind) {t w r : List ℕ} → STRING-CONTINUE t r → w ≡ [] → PIECE k t w r
+continue-piece : (k : Allowed) {t w r : List ℕ} → STRING-CONTINUE t r → w ≡ [] → PIECE k t w r
 continue-piece Text c e = quoted.continue c e
 continue-piece Bytes c e = quoted.continue c e
 continue-piece C c e = quoted.continue c e
 
 -- ---- pieces
 
-pub pieces-of : (k : Kind) {c v : List ℕ} → Content (allowedIn k) c v → Pieces (PIECE k) c v
+pub pieces-of : (k : Allowed) {c v : List ℕ} → Content k c v → Pieces (PIECE k) c v
 pieces-of k pieces.none = quoted.none
 pieces-of k (pieces.char {s} {v} b x rest) = quoted.some (b ∷ []) (b ∷ []) s v (char-from k s b x refl refl) (pieces-of k rest) refl refl
 pieces-of k (pieces.escape {t} {s} {v} {u = u} x rest e f) = quoted.some t (bytesOf u) s v (escape-from k s x refl) (pieces-of k rest) e f
@@ -151,24 +149,24 @@ join (char b x i j) rest e f = rw (e, i, f, j) (pieces.char b x rest)
 join (escape u x j) rest e f = pieces.escape x rest e (f ∙ rw j)
 join (continue ws a st i j) rest e f = rw (f, j) (pieces.continue ws a st rest (e ∙ rw i))
 
-pub content-of : (k : Kind) {c v : List ℕ} → Pieces (PIECE k) c v → Content (allowedIn k) c v
+pub content-of : (k : Allowed) {c v : List ℕ} → Pieces (PIECE k) c v → Content k c v
 content-of k quoted.none = pieces.none
 content-of k (quoted.some t w r u p rest e f) = join (view-to k p) (content-of k rest) e f
 
 -- ---- raw bodies
 
 -- the bytes of a kind's raw bodies, by the Reference
-abbrev pub RAW : Kind → Class
+abbrev pub RAW : Allowed → Class
 RAW Text = except (byte 13)
 RAW Bytes = ascii-except (byte 13)
 RAW C = except (byte 13 ∪ byte 0)
 
-raw-to : (k : Kind) (b : ℕ) → RawChar (allowedIn k) b → T (RAW k b)
+raw-to : (k : Allowed) (b : ℕ) → RawChar k b → T (RAW k b)
 raw-to Text b c = rw (ne-eqb b 13 (c .cr)) tt
 raw-to Bytes b c = is-below (except (byte 13)) b (c .ascii) (rw (ne-eqb b 13 (c .cr)) tt)
 raw-to C b c = rw (ne-eqb b 13 (c .cr), c .nul) tt
 
-raw-from : (k : Kind) (b : ℕ) → T (RAW k b) → RawChar (allowedIn k) b
+raw-from : (k : Allowed) (b : ℕ) → T (RAW k b) → RawChar k b
 raw-from Text b t = record { cr = none-of (RAW Text) b 13 t; nul = refl; ascii = refl }
 raw-from Bytes b t =
     let (low, rest) = below (except (byte 13)) b t in record { cr = none-of (except (byte 13)) b 13 rest; nul = refl; ascii = low }
@@ -219,15 +217,15 @@ closes-there h i l g c =
 abbrev pub First : ℕ → List ℕ → List ℕ → Type 0
 First h v x = (u w : List ℕ) → v ++ closing h x ≡ u ++ closing h w → length v ≤ length u
 
-module _ (k : Kind) (h : ℕ) (v x : List ℕ) where
-  pub raw-of : RawContent (allowedIn k) h (v ++ closing h x) (length v) → T (all (RAW k) v) × First h v x
+module _ (k : Allowed) (h : ℕ) (v x : List ℕ) where
+  pub raw-of : RawContent k h (v ++ closing h x) (length v) → T (all (RAW k) v) × First h v x
   raw-of c = (
     all-each (RAW k) v (closing h x) (λ i l. raw-to k _ (c .chars i l)),
     λ u w e. by-lt (length u) (length v)
         (λ l. absurd (c .first (length u) l (subst (λ (s : List ℕ). ClosesAt h s (length u)) (sym e) (closes-here h u w)))) (λ l. l),
   )
 
-  pub of-raw : T (all (RAW k) v) → First h v x → RawContent (allowedIn k) h (v ++ closing h x) (length v)
+  pub of-raw : T (all (RAW k) v) → First h v x → RawContent k h (v ++ closing h x) (length v)
   of-raw t f =
       let s : List ℕ = v ++ closing h x in
       record {

@@ -13,10 +13,10 @@ use Rattle.err.specs.Outcome.{Place, none, Values, Outcome, refused, accepted}
 use Rattle.buffer.specs.Buffer.{over}
 use Rattle.scan.proofs.Cases.{cond-in, cond-eq}
 use Rattle.utf8.specs.Utf8.{Utf8}
+use Rattle.escape.specs.declared.Allowed.{Allowed}
+use Rattle.escape.specs.declared.Allowed.the-variants.{Text, Bytes, C}
 use Rattle.string.specs.String.{kindOf, stringRead, stringValue}
-use Rattle.string.specs.Decode.{Decode, written, withheld, ofReading, stringDecoded, bufferOf, bufferAfter}
-use Rattle.string.specs.declared.Kind.{Kind}
-use Rattle.string.specs.declared.Kind.the-variants.{Text, Bytes, C}
+use Rattle.string.specs.Decode.{Decode, given, written, withheld, ofReading, stringDecoded, bufferOf, bufferAfter}
 use Rattle.string.proofs.Refused.{refused-in}
 use Rattle.string.proofs.Values.{value-short}
 use Rattle.input.specs.Checks.{textFault}
@@ -29,7 +29,7 @@ use Rattle.demands.proofs.Numbered.{text-refused, or-42}
 
 -- ---- codes
 
-pub coded : (k : Kind) → kindCoded (kindOf k) ≡ found.Kind k
+pub coded : (k : Allowed) → kindCoded (kindOf k) ≡ found.Kind k
 unfolding kindCoded
 coded Text = refl
 coded Bytes = refl
@@ -47,7 +47,7 @@ uncoded code n =
 
 -- ---- every call is answered
 
-decode-answered : (k : Kind) (have : ℕ) (s : List ℕ) → length s ≤ 65536 → DecodeAnswered (length s) have (stringDecoded k s have)
+decode-answered : (k : Allowed) (have : ℕ) (s : List ℕ) → length s ≤ 65536 → DecodeAnswered (length s) have (stringDecoded k s have)
 unfolding stringDecoded
 decode-answered k have s l = go (stringRead k s) refl
   where
@@ -60,7 +60,7 @@ decode-answered k have s l = go (stringRead k s) refl
         cond-in (DecodeAnswered (length s) have) (leb (length v) have) (λ t. (leb-true (length v) have t, value-short k s h, omega (arith, value-short k s h)))
         (λ t. inr (inr (inr (inr (inl refl))), refl))
 
-checked-answered : (k : Kind) (have : ℕ) (s : List ℕ) → DecodeAnswered (length s) have (checkedDecode k s have)
+checked-answered : (k : Allowed) (have : ℕ) (s : List ℕ) → DecodeAnswered (length s) have (checkedDecode k s have)
 unfolding checkedDecode
 checked-answered k have s =
     cond-eq (DecodeAnswered (length s) have) (textFault s) 0 (λ z. decode-answered k have s (fault-passed s z .0))
@@ -80,7 +80,7 @@ bad-code : (code have : ℕ) (s : List ℕ) → (Decodes code → ⊥) → decod
 unfolding decodeAt
 bad-code code have s n = rw (uncoded code n)
 
-module _ (k : Kind) (have : ℕ) (s : List ℕ) where
+module _ (k : Allowed) (have : ℕ) (s : List ℕ) where
   too-long : 65536 < length s → decodeAt (kindOf k) s have ≡ withheld 43 none
   unfolding decodeAt checkedDecode
   too-long h = rw (coded k, long-fault s h)
@@ -106,14 +106,14 @@ module _ (k : Kind) (have : ℕ) (s : List ℕ) where
     unfolding stringDecoded
     decoded l = rw (fine-decode f, h, le-leb (length (stringValue k s)) have l)
 
-pub fine-buffer : (k : Kind) (s buf : List ℕ) → Readable s → bufferAt (kindOf k) s buf ≡ bufferAfter k s buf
+pub fine-buffer : (k : Allowed) (s buf : List ℕ) → Readable s → bufferAt (kindOf k) s buf ≡ bufferAfter k s buf
 unfolding bufferAt checkedBuffer
 fine-buffer k s buf f = rw (coded k, no-fault s (f .short) (f .utf8))
 
 -- ---- the buffer: as it came where the answer is a refusal, else the value over its front
 
 abbrev Held : List ℕ → List ℕ → Decode → List ℕ → Type 0
-Held v buf (written n) after = after ≡ over v buf
+Held v buf (given n) after = after ≡ over v buf
 Held v buf (withheld n p) after = after ≡ buf
 
 held-reading : (o : Outcome) (v buf : List ℕ) → Held v buf (ofReading o v (length buf)) (bufferOf o v buf)
@@ -124,7 +124,7 @@ held-reading (accepted kind e vs) v buf = by-test (leb (length v) (length buf))
     by-test true = refl
     by-test false = refl
 
-held-checked : (k : Kind) (s buf : List ℕ) → Held (stringValue k s) buf (checkedDecode k s (length buf)) (checkedBuffer k s buf)
+held-checked : (k : Allowed) (s buf : List ℕ) → Held (stringValue k s) buf (checkedDecode k s (length buf)) (checkedBuffer k s buf)
 unfolding checkedDecode checkedBuffer stringDecoded bufferAfter
 held-checked k s buf = by-test (eqb (textFault s) 0)
   where
@@ -146,7 +146,7 @@ untouched code s buf {n} {p} = go (kindCoded code)
     go (found.Kind k) h = subst (λ (d : Decode). Held (stringValue k s) buf d (checkedBuffer k s buf)) h (held-checked k s buf)
     go found.Nothing h = refl
 
-filled : (k : Kind) (s buf : List ℕ) {n : ℕ} → decodeAt (kindOf k) s (length buf) ≡ written n → bufferAt (kindOf k) s buf ≡ over (stringValue k s) buf
+filled : (k : Allowed) (s buf : List ℕ) {n : ℕ} → decodeAt (kindOf k) s (length buf) ≡ written n → bufferAt (kindOf k) s buf ≡ over (stringValue k s) buf
 unfolding decodeAt bufferAt
 filled k s buf h =
     rw (coded k) (subst (λ (d : Decode). Held (stringValue k s) buf d (checkedBuffer k s buf)) (rw (coded k) at h) (held-checked k s buf))

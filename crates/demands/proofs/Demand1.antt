@@ -1,6 +1,6 @@
 -- Demand 1 holds.
 -- Assumes nothing.
-use mathlib.Core.Path.{_≡_, refl, ap, _∙_}
+use mathlib.Core.Path.{_≡_, refl, _∙_}
 use mathlib.Core.Bool.{true}
 use mathlib.Core.List.{List}
 use Prim.Native.Nat.{ℕ}
@@ -8,11 +8,10 @@ use Rattle.scan.specs.Same.{same}
 use Rattle.scan.proofs.Cases.{cond-in}
 use Rattle.scan.proofs.Sames.{same-eq}
 use Rattle.utf8.specs.Utf8.{encode}
-use Rattle.types.specs.Types.{unsignedNamed, signedNamed, orElse, integerNamed, integerCode, floatNamed, floatCode}
+use Rattle.types.specs.Types.{namedIn, integerNamed, integerCode, floatNamed, floatCode}
 use Rattle.types.specs.declared.IntegerType.{IntegerType}
 use Rattle.types.specs.declared.IntegerType.the-variants.{U8, U16, U32, U64, U128, Usize, I8, I16, I32, I64, I128, Isize}
 use Rattle.types.specs.declared.IntegerFound.{IntegerFound}
-use Rattle.types.specs.declared.IntegerFound.the-variants as integer
 use Rattle.types.specs.declared.FloatType.{FloatType}
 use Rattle.types.specs.declared.FloatType.the-variants.{F32, F64}
 use Rattle.types.specs.declared.FloatFound.{FloatFound}
@@ -26,7 +25,7 @@ use Rattle.demands.proofs.SettleCall.{settle-answers, number-answers}
 -- ---- a name that has a code
 
 integer-named : (t : IntegerType) → integerFromSuffix (integerName t) ≡ integerCode t
-unfolding encode unsignedNamed signedNamed integerNamed integerFromSuffix
+unfolding encode namedIn integerNamed integerFromSuffix
 integer-named U8 = refl
 integer-named U16 = refl
 integer-named U32 = refl
@@ -49,24 +48,17 @@ float-named F64 = refl
 
 module _ (name : List ℕ) where
   unnamed : ((t : IntegerType) → name ≡ integerName t → ⊥) → integerFromSuffix name ≡ 0
-  unfolding encode unsignedNamed signedNamed integerNamed integerFromSuffix
-  unnamed never = ap codeOfInteger (ap (λ (f : IntegerFound). orElse f (signedNamed name)) unsigned ∙ signed)
+  unfolding encode namedIn integerNamed integerFromSuffix
+  unnamed never =
+      cond-in P _ (is U8 refl) λ a. cond-in P _ (is U16 refl) λ a. cond-in P _ (is U32 refl) λ a. cond-in P _ (is U64 refl) λ a.
+      cond-in P _ (is U128 refl) λ a. cond-in P _ (is Usize refl) λ a. cond-in P _ (is I8 refl) λ a. cond-in P _ (is I16 refl) λ a.
+      cond-in P _ (is I32 refl) λ a. cond-in P _ (is I64 refl) λ a. cond-in P _ (is I128 refl) λ a. cond-in P _ (is Isize refl) λ a. refl
     where
-      is : {x : List ℕ} {f : IntegerFound} (t : IntegerType) → x ≡ integerName t → same name x ≡ true → f ≡ integer.Nothing
-      is t e h = absurd (never t (same-eq name _ h ∙ e))
-
       P : IntegerFound → Type 0
-      P f = f ≡ integer.Nothing
+      P f = codeOfInteger f ≡ 0
 
-      unsigned : unsignedNamed name ≡ integer.Nothing
-      unsigned =
-          cond-in P _ (is U8 refl) λ a. cond-in P _ (is U16 refl) λ a. cond-in P _ (is U32 refl) λ a. cond-in P _ (is U64 refl) λ a.
-          cond-in P _ (is U128 refl) λ a. cond-in P _ (is Usize refl) λ a. refl
-
-      signed : signedNamed name ≡ integer.Nothing
-      signed =
-          cond-in P _ (is I8 refl) λ a. cond-in P _ (is I16 refl) λ a. cond-in P _ (is I32 refl) λ a. cond-in P _ (is I64 refl) λ a.
-          cond-in P _ (is I128 refl) λ a. cond-in P _ (is Isize refl) λ a. refl
+      is : {x : List ℕ} {A : Type 0} (t : IntegerType) → x ≡ integerName t → same name x ≡ true → A
+      is t e h = absurd (never t (same-eq name _ h ∙ e))
 
   no-float-named : ((t : FloatType) → name ≡ floatName t → ⊥) → floatFromSuffix name ≡ 0
   unfolding encode floatNamed floatFromSuffix

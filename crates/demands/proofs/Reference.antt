@@ -8,7 +8,7 @@ use native.Mathlib.Omega.{arith}
 use lib.ListN.{drop}
 use Rattle.err.specs.Outcome.{Values, accepted}
 use Rattle.utf8.specs.Utf8.{Utf8}
-use Rattle.string.specs.declared.Kind.the-variants.{Text, Bytes, C}
+use Rattle.escape.specs.declared.Allowed.the-variants.{Text, Bytes, C}
 use Rattle.literal.specs.Readings.{entryRead, readAt}
 use Rattle.literal.proofs.Entries.{by-code}
 use Rattle.literal.proofs.Answers.{read-own, read-passed, entry-accepted}

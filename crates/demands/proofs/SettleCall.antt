@@ -17,10 +17,11 @@ use Rattle.form.specs.Form.{formOf, faultOf}
 use Rattle.form.specs.Reduced.{reduce}
 use Rattle.literal.specs.Readings.{readAt}
 use Rattle.bare_form.specs.Worths.{worthOf}
-use Rattle.settle.specs.Settled.{Settle, formed, withheld, measured, measureOf, measureAt, fitted, settleAt, formBy, formAt, bufferAt}
+use Rattle.settle.proofs.Forms.{same-form}
+use Rattle.settle.specs.Settled.{Settle, given, formed, withheld, measured, measureOf, measureAt, fitted, settleAt, formBy, formAt, bufferAt}
 use Rattle.integer_value.specs.Value.{Valued}
 use Rattle.numbers.specs.Numbers.{readingNumbers}
-use Rattle.desk.specs.Code.{valueCode, valueAfter, decodeCode, codeOf}
+use Rattle.desk.specs.Code.{codeOf, valueAfter}
 use Rattle.demands.specs.Demand1.{SettleAnswered, SettleAnswers, NumberAnswers}
 use Rattle.demands.proofs.ReadCall.{Coded, coded}
 
@@ -28,7 +29,7 @@ use Rattle.demands.proofs.ReadCall.{Coded, coded}
 
 -- what a measure says of a text of m bytes with the form f
 abbrev Measure : ℕ → List ℕ → Settle → Type 0
-Measure m f (formed k n) = (1 ≤ k) × (k ≤ 8) × (n ≤ 65536) × (n ≡ length f)
+Measure m f (given (k, n)) = (1 ≤ k) × (k ≤ 8) × (n ≤ 65536) × (n ≡ length f)
 Measure m f (withheld n p) = SettleAnswered m 0 (withheld n p)
 
 -- 45 or 46
@@ -76,7 +77,7 @@ unfolding settleAt
 answered have s = go (measureAt s) (measure-is s)
   where
     go : (x : Settle) → Measure (length s) (formAt s) x → SettleAnswered (length s) have (fitted have x)
-    go (formed k n) h =
+    go (given (k, n)) h =
         cond-in (SettleAnswered (length s) have) (leb n have) (λ t. (h .0, h .1, leb-true n have t, h .2))
         (λ t. inr (inr (inr (inr (inr (inr (inl refl))))), refl))
     go (withheld n p) h = h
@@ -94,9 +95,9 @@ unfolding bufferAt settleAt
 filled s buf {k} {n} h = (rw h, go (measureAt s) (measure-is s) h)
   where
     go : (x : Settle) → Measure (length s) (formAt s) x → fitted (length buf) x ≡ formed k n → n ≡ length (formAt s)
-    go (formed l m) i e =
+    go (given (l, m)) i e =
         cond-in (λ (y : Settle). y ≡ formed k n → n ≡ length (formAt s)) (leb m (length buf))
-        (λ t e. let q : m ≡ n = cc in sym q ∙ i .3)
+        (λ t e. sym (same-form e .1) ∙ i .3)
         (λ t e. absurd (let z : _≡_ {A = ℕ} 0 1 = cc in omega arith)) e
     go (withheld m p) i e = absurd (let z : _≡_ {A = ℕ} 0 1 = cc in omega arith)
 
@@ -105,7 +106,7 @@ unfolding settleAt
 measured-by s = go (measureAt s) (measure-is s)
   where
     go : (x : Settle) → Measure (length s) (formAt s) x → x ≡ fitted 65536 x
-    go (formed k n) h = rw (le-leb n 65536 (h .2))
+    go (given (k, n)) h = rw (le-leb n 65536 (h .2))
     go (withheld n p) h = refl
 
 pub settle-answers : SettleAnswers
@@ -125,10 +126,10 @@ number-answers =
     record {
       reading = λ code s h. ap readingNumbers h;
       no-reading = λ code s h. ap readingNumbers h;
-      value = λ code s h. (ap valueCode h, λ before. ap (λ (v : Valued). valueAfter v before) h);
-      no-value = λ code s h. (ap valueCode h, λ before. ap (λ (v : Valued). valueAfter v before) h);
-      bytes = λ code have s h. ap decodeCode h;
-      no-bytes = λ code have s h. ap decodeCode h;
-      form = λ have s h. ap codeOf h;
-      no-form = λ have s h. ap codeOf h;
+      value = λ code s h. (ap (codeOf (λ v. 0)) h, λ before. ap (λ (v : Valued). valueAfter v before) h);
+      no-value = λ code s h. (ap (codeOf (λ v. 0)) h, λ before. ap (λ (v : Valued). valueAfter v before) h);
+      bytes = λ code have s h. ap (codeOf (λ n. n)) h;
+      no-bytes = λ code have s h. ap (codeOf (λ n. n)) h;
+      form = λ have s h. ap (codeOf (λ form. form .1)) h;
+      no-form = λ have s h. ap (codeOf (λ form. form .1)) h;
     }

@@ -17,7 +17,8 @@ use Rattle.form.specs.Reduced.{reduce}
 use Rattle.form.proofs.Reduce.{too-far}
 use Rattle.literal.specs.Readings.{readAt}
 use Rattle.bare_form.specs.Worths.{worthOf}
-use Rattle.settle.specs.Settled.{Settle, formed, withheld, measured, measureOf, measureAt, fitted, settleAt, formAt, bufferAt}
+use Rattle.settle.proofs.Forms.{same-form}
+use Rattle.settle.specs.Settled.{Settle, given, formed, withheld, measured, measureOf, measureAt, fitted, settleAt, formAt, bufferAt}
 use Rattle.demands.specs.Demand3.{Accepts, Given, TooLarge, PowerTooFar, TooLong, TooSmall}
 use Rattle.demands.proofs.Reference.{demand-2-reference}
 use Rattle.demands.proofs.Worths.{own-read, worth-is, over-unique}
@@ -127,11 +128,11 @@ module _ {s x : List ℕ} {k : ℕ} {w : Worth} (a : Accepts s k) (m : Means s w
 pub by-reason : {P : Type 0} (w : Worth) (x : List ℕ) (have : ℕ) → (TooLarge w → P) → (PowerTooFar w → P) → (faultOf w ≡ 0 → TooLong w x → P)
     → (faultOf w ≡ 0 → length (formOf w x) ≤ 65536 → TooSmall w x have → P)
     → (faultOf w ≡ 0 → length (formOf w x) ≤ 65536 → length (formOf w x) ≤ have → P) → P
-by-reason w x have f g long small given =
+by-reason w x have f g long small fits =
     by-fault w f g λ a b.
     let e = no-fault w a b in
     by-lt 65536 (length (formOf w x)) (long e) λ l.
-    by-lt have (length (formOf w x)) (small e l) (given e l)
+    by-lt have (length (formOf w x)) (small e l) (fits e l)
 
 -- ---- a form that is given
 
@@ -142,9 +143,9 @@ given-measure s {k} {have} {n} = go (measureAt s)
   where
     go : (r : Settle) → fitted have r ≡ formed k n → (r ≡ formed k n) × (n ≤ have)
     go (withheld i p) = λ h. absurd (let z : _≡_ {A = ℕ} 0 1 = cc in omega arith)
-    go (formed j i) =
+    go (given (j, i)) =
         cond-in (λ (r : Settle). r ≡ formed k n → (formed j i ≡ formed k n) × (n ≤ have)) (leb i have)
-        (λ e h. let q : i ≡ n = cc in (h, omega (arith, leb-true i have e)))
+        (λ e h. (h, omega (arith, same-form h .1, leb-true i have e)))
         (λ e h. absurd (let z : _≡_ {A = ℕ} 0 1 = cc in omega arith))
 
 -- the worth then has no fault, and the form is not too long
@@ -153,7 +154,7 @@ measured-given : (j : ℕ) (w : Worth) (x : List ℕ) {k n : ℕ} → measured j
 unfolding measured
 measured-given j w x {k} {n} =
     cond-eq P (faultOf w) 0
-    (λ e. cond-in P (leb (length (formOf w x)) 65536) (λ l h. ((cc), (cc), e, leb-true _ 65536 l))
+    (λ e. cond-in P (leb (length (formOf w x)) 65536) (λ l h. let z = same-form h in (z .0, sym (z .1), e, leb-true _ 65536 l))
     (λ _ h. absurd (let z : _≡_ {A = ℕ} 0 1 = cc in omega arith)))
     (λ _ h. absurd (let z : _≡_ {A = ℕ} 0 1 = cc in omega arith))
   where

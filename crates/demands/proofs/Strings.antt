@@ -10,12 +10,12 @@ use Rattle.err.specs.Outcome.{Values, accepted, Rawness, notRaw, raw, decoded}
 use Rattle.buffer.specs.Buffer.{over}
 use Rattle.utf8.specs.Utf8.{Utf8}
 use Rattle.utf8.proofs.Aligned.{aligned}
+use Rattle.escape.specs.declared.Allowed.{Allowed}
+use Rattle.escape.specs.declared.Allowed.the-variants.{Text, Bytes, C}
 use Rattle.body.specs.Pieces.{RawContent}
-use Rattle.string.specs.String.{kindOf, allowedIn, stringRead, stringValue}
+use Rattle.string.specs.String.{kindOf, stringRead, stringValue}
 use Rattle.string.specs.Decode.{written}
 use Rattle.string.specs.Parts.{letterOf, hashes, QuotedParts, RawParts, Tiled, as-quoted, as-raw}
-use Rattle.string.specs.declared.Kind.{Kind}
-use Rattle.string.specs.declared.Kind.the-variants.{Text, Bytes, C}
 use Rattle.string.proofs.Sound.{sound}
 use Rattle.string.proofs.Complete.{complete}
 use Rattle.string.proofs.Decodes.{decode-written}
@@ -34,18 +34,18 @@ use Rattle.demands.proofs.Characters.{Ends, behind, rest-is, start-is}
 use Rattle.demands.proofs.Contents.{PIECE, RAW, pieces-of, content-of, hashes-same, raw-of, of-raw}
 
 -- the literals of a kind
-abbrev QUOTED : Kind → List ℕ → List ℕ → List ℕ → Type 0
+abbrev QUOTED : Allowed → List ℕ → List ℕ → List ℕ → Type 0
 QUOTED k = Quoted (PIECE k) (letterOf k ++ (34 ∷ []))
 
-abbrev RAWS : Kind → List ℕ → List ℕ → List ℕ → Type 0
+abbrev RAWS : Allowed → List ℕ → List ℕ → List ℕ → Type 0
 RAWS k = Raw (RAW k) (letterOf k ++ (114 ∷ []))
 
 -- ---- the parts
 
-quoted-text : (k : Kind) (c x : List ℕ) → letterOf k ++ (34 ∷ (c ++ (34 ∷ x))) ≡ (letterOf k ++ (34 ∷ [])) ++ (c ++ (34 ∷ x))
+quoted-text : (k : Allowed) (c x : List ℕ) → letterOf k ++ (34 ∷ (c ++ (34 ∷ x))) ≡ (letterOf k ++ (34 ∷ [])) ++ (c ++ (34 ∷ x))
 quoted-text k c x = sym (append-assoc (letterOf k) (34 ∷ []) (c ++ (34 ∷ x)))
 
-raw-text : (k : Kind) (h : ℕ) (v x : List ℕ)
+raw-text : (k : Allowed) (h : ℕ) (v x : List ℕ)
     → letterOf k ++ (114 ∷ (hashes h ++ (34 ∷ (v ++ (34 ∷ (hashes h ++ x))))))
     ≡ (letterOf k ++ (114 ∷ [])) ++ (times h 35 ++ (34 ∷ (v ++ closing h x)))
 raw-text k h v x = rw (← hashes-same h) (sym (append-assoc (letterOf k) (114 ∷ []) (hashes h ++ (34 ∷ (v ++ (34 ∷ (hashes h ++ x)))))))
@@ -54,7 +54,7 @@ raw-text k h v x = rw (← hashes-same h) (sym (append-assoc (letterOf k) (114 �
 same-body : (h : ℕ) (v x : List ℕ) → v ++ (34 ∷ (hashes h ++ x)) ≡ v ++ closing h x
 same-body h v x = ap (λ (l : List ℕ). v ++ (34 ∷ (l ++ x))) (hashes-same h)
 
-module _ (k : Kind) {s v x : List ℕ} where
+module _ (k : Allowed) {s v x : List ℕ} where
   quoted-to : {c : List ℕ} → QuotedParts k s c v x → QUOTED k s v x
   quoted-to {c} p =
       record { content = c; is = p .text ∙ quoted-text k c x; inner = pieces-of k (p .pieces); ending = suffix-is x .0 (p .suffix) }
@@ -65,7 +65,7 @@ module _ (k : Kind) {s v x : List ℕ} where
 
   raw-literal : {h : ℕ} → RawParts k s v x h → RAWS k s v x
   raw-literal {h} p =
-      let b = raw-of k h v x (subst (λ (l : List ℕ). RawContent (allowedIn k) h l (length v)) (same-body h v x) (p .bytes)) in
+      let b = raw-of k h v x (subst (λ (l : List ℕ). RawContent k h l (length v)) (same-body h v x) (p .bytes)) in
       record {
         hashes = h;
         few = omega (arith, p .few);
@@ -81,7 +81,7 @@ module _ (k : Kind) {s v x : List ℕ} where
       record {
         text = l .is ∙ sym (raw-text k h v x);
         few = omega (arith, l .few);
-        bytes = subst (λ (l : List ℕ). RawContent (allowedIn k) h l (length v)) (sym (same-body h v x)) (of-raw k h v x (l .chars) (l .first));
+        bytes = subst (λ (l : List ℕ). RawContent k h l (length v)) (sym (same-body h v x)) (of-raw k h v x (l .chars) (l .first));
         suffix = suffix-is x .1 (l .ending);
       }
 
@@ -98,7 +98,7 @@ module _ (k : Kind) {s v x : List ℕ} where
 
 -- ---- what decoding gives
 
-module _ (k : Kind) (s : List ℕ) {kind e : ℕ} {vs : Values} (f : Readable s) (g : stringRead k s ≡ accepted kind e vs) where
+module _ (k : Allowed) (s : List ℕ) {kind e : ℕ} {vs : Values} (f : Readable s) (g : stringRead k s ≡ accepted kind e vs) where
   counted : (buf : List ℕ) → length (stringValue k s) ≤ length buf → decodeAt (kindOf k) s (length buf) ≡ written (length (stringValue k s))
   unfolding decodeAt checkedDecode
   counted buf room = rw (coded k, no-fault s (f .short) (f .utf8)) (sym (decode-written k s buf (sym g) room .0))
@@ -109,32 +109,32 @@ module _ (k : Kind) (s : List ℕ) {kind e : ℕ} {vs : Values} (f : Readable s)
 
 -- ---- what is read is a literal
 
-abbrev worthOf : Kind → List ℕ → Worth
+abbrev worthOf : Allowed → List ℕ → Worth
 worthOf Text v = worth.string v
 worthOf Bytes v = worth.byte-string v
 worthOf C v = worth.c-string v
 
-worth-kind : (k : Kind) (v : List ℕ) → kindOf k ≡ worth.kindOf (worthOf k v)
+worth-kind : (k : Allowed) (v : List ℕ) → kindOf k ≡ worth.kindOf (worthOf k v)
 worth-kind Text v = refl
 worth-kind Bytes v = refl
 worth-kind C v = refl
 
-worth-gives : (k : Kind) (s : List ℕ) (vs : Values) (v : List ℕ) → GivesBytes (kindOf k) s vs v → Gives s vs (worthOf k v)
+worth-gives : (k : Allowed) (s : List ℕ) (vs : Values) (v : List ℕ) → GivesBytes (kindOf k) s vs v → Gives s vs (worthOf k v)
 worth-gives Text s vs v g = g
 worth-gives Bytes s vs v g = g
 worth-gives C s vs v g = g
 
-quoted-means : (k : Kind) (s v x : List ℕ) → QUOTED k s v x → Means s (worthOf k v) x
+quoted-means : (k : Allowed) (s v x : List ℕ) → QUOTED k s v x → Means s (worthOf k v) x
 quoted-means Text s v x l = is-string v l refl
 quoted-means Bytes s v x l = is-byte-string v l refl
 quoted-means C s v x l = is-c-string v l refl
 
-raw-means : (k : Kind) (s v x : List ℕ) → RAWS k s v x → Means s (worthOf k v) x
+raw-means : (k : Allowed) (s v x : List ℕ) → RAWS k s v x → Means s (worthOf k v) x
 raw-means Text s v x l = is-raw-string v l refl
 raw-means Bytes s v x l = is-raw-byte-string v l refl
 raw-means C s v x l = is-raw-c-string v l refl
 
-pub string-found : (k : Kind) (s : List ℕ) {kind e : ℕ} {vs : Values} → Readable s → stringRead k s ≡ accepted kind e vs → Found s kind e vs
+pub string-found : (k : Allowed) (s : List ℕ) {kind e : ℕ} {vs : Values} → Readable s → stringRead k s ≡ accepted kind e vs → Found s kind e vs
 string-found k s {kind} {e} {vs} f g =
     let r = sound k s g in
     go (stringValue k s) (r .0) (λ h is. record { hashes = h; values = is; count = counted k s f g; bytes = left k s f g }) (r .1)
@@ -162,7 +162,7 @@ string-found k s {kind} {e} {vs} f g =
 
 -- ---- each literal is read
 
-module _ (k : Kind) (s : List ℕ) {v x : List ℕ} (u : Utf8 s) where
+module _ (k : Allowed) (s : List ℕ) {v x : List ℕ} (u : Utf8 s) where
   quoted-read : QUOTED k s v x → (e : ℕ) × (vs : Values) × (stringRead k s ≡ accepted (kindOf k) e vs)
   quoted-read l =
       let p = quoted-from k l in (
@@ -180,12 +180,12 @@ module _ (k : Kind) (s : List ℕ) {v x : List ℕ} (u : Utf8 s) where
       )
 
 -- a literal of a kind, with escapes or raw
-abbrev pub LITERAL : Kind → List ℕ → List ℕ → List ℕ → Type 0
+abbrev pub LITERAL : Allowed → List ℕ → List ℕ → List ℕ → Type 0
 LITERAL Text s v x = STRING-LITERAL s v x ⊎ RAW-STRING-LITERAL s v x
 LITERAL Bytes s v x = BYTE-STRING-LITERAL s v x ⊎ RAW-BYTE-STRING-LITERAL s v x
 LITERAL C s v x = C-STRING-LITERAL s v x ⊎ RAW-C-STRING-LITERAL s v x
 
-pub string-read : (k : Kind) (s v x : List ℕ) → Utf8 s → LITERAL k s v x → (e : ℕ) × (vs : Values) × (stringRead k s ≡ accepted (kindOf k) e vs)
+pub string-read : (k : Allowed) (s v x : List ℕ) → Utf8 s → LITERAL k s v x → (e : ℕ) × (vs : Values) × (stringRead k s ≡ accepted (kindOf k) e vs)
 string-read Text s v x u (inl l) = quoted-read Text s u l
 string-read Text s v x u (inr l) = raw-read Text s u l
 string-read Bytes s v x u (inl l) = quoted-read Bytes s u l

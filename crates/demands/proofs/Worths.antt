@@ -11,14 +11,14 @@ use Rattle.err.specs.Outcome.{Values, accepted, truth, digits, ends, value, dec
 use Rattle.buffer.specs.Buffer.{over}
 use Rattle.utf8.specs.Utf8.{Utf8, Boundary}
 use Rattle.utf8.proofs.Text.{boundary-drop}
+use Rattle.escape.specs.declared.Allowed.{Allowed}
+use Rattle.escape.specs.declared.Allowed.the-variants.{Text, Bytes, C}
 use Rattle.integer.specs.Integer.{integerRead}
 use Rattle.integer.specs.Parts.{Tiled}
 use Rattle.integer.proofs.Parts.{sound}
 use Rattle.integer_value.specs.Value.{number}
 use Rattle.string.specs.String.{stringRead, stringValue}
 use Rattle.string.specs.String as strings
-use Rattle.string.specs.declared.Kind.{Kind}
-use Rattle.string.specs.declared.Kind.the-variants.{Text, Bytes, C}
 use Rattle.string.specs.Decode.{written}
 use Rattle.string.proofs.Values.{value-utf8}
 use Rattle.literal.specs.Decodes.{decodeAt}
@@ -71,7 +71,7 @@ over-unique u v buf e h =
     sym (take-append-seam u (drop (length u) buf)) ∙ ap (take (length u)) h ∙ take-at v (drop (length v) buf) (length u) (sym e)
 
 -- decoding gives one value
-decoded-value : (k : Kind) (s v : List ℕ) {kind e : ℕ} {vs : Values} → Readable s → stringRead k s ≡ accepted kind e vs
+decoded-value : (k : Allowed) (s v : List ℕ) {kind e : ℕ} {vs : Values} → Readable s → stringRead k s ≡ accepted kind e vs
     → GivesBytes (strings.kindOf k) s vs v → stringValue k s ≡ v
 decoded-value k s v f h g =
     let w = stringValue k s in

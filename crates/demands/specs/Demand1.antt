@@ -11,9 +11,9 @@
 --   settle::settle                settledOf r ≡ settleAt text (length of out at entry), and out at exit ≡ settle's bufferAt text (out at entry)
 -- and the entries for C, with out at exit as above:
 --   desk::keybasket_read          answer at exit ≡ readingNumbers (readAt entry text)
---   desk::keybasket_value         r ≡ valueCode (valueAt ty text), and value at exit ≡ valueAfter (valueAt ty text) (value at entry)
---   desk::keybasket_decode        r ≡ decodeCode (decodeAt entry text (length of out at entry))
---   desk::keybasket_settle        r ≡ codeOf (settleAt text (length of out at entry))
+--   desk::keybasket_value         r ≡ codeOf (λ v. 0) (valueAt ty text), and value at exit ≡ valueAfter (valueAt ty text) (value at entry)
+--   desk::keybasket_decode        r ≡ codeOf (λ n. n) (decodeAt entry text (length of out at entry))
+--   desk::keybasket_settle        r ≡ codeOf (λ form. form .1) (settleAt text (length of out at entry))
 -- "comes to an end": a contract is proved only of code that ends. "with the text untouched": the text is a shared slice, and the last clause of
 -- each contract says that at exit it is what it was at entry. The rest is said below, of the definitions that the contracts cite.
 -- Assumes nothing.
@@ -25,6 +25,7 @@ use lib.ListN.{length}
 use Rattle.err.specs.Outcome.{Place, none, RefusedIn, Values, Outcome, refused, accepted}
 use Rattle.buffer.specs.Buffer.{over}
 use Rattle.utf8.specs.Utf8.{Utf8}
+use Rattle.escape.specs.declared.Allowed.{Allowed}
 use Rattle.grammar.specs.Notation.{bytes}
 use Rattle.types.specs.Types.{integerCode, floatCode}
 use Rattle.types.specs.declared.IntegerType.{IntegerType}
@@ -36,7 +37,6 @@ use Rattle.integer_value.specs.Value.{Valued, given, number}
 use Rattle.integer_value.specs.Value as valued
 use Rattle.string.specs.String.{kindOf, stringRead, stringValue}
 use Rattle.string.specs.Decode.{Decode, written, withheld}
-use Rattle.string.specs.declared.Kind.{Kind}
 use Rattle.literal.specs.Readings.{entryRead, readAt}
 use Rattle.literal.specs.Inside.{NoLonger}
 use Rattle.literal.specs.Values.{valueAt}
@@ -45,7 +45,7 @@ use Rattle.literal.specs.Suffixes.{integerFromSuffix, floatFromSuffix}
 use Rattle.settle.specs.Settled.{Settle, formed, measureAt, settleAt, formAt}
 use Rattle.settle.specs.Settled as settled
 use Rattle.numbers.specs.Numbers.{readingNumbers, valueNumbers, placeNumbers}
-use Rattle.desk.specs.Code.{valueCode, valueAfter, decodeCode, codeOf}
+use Rattle.desk.specs.Code.{codeOf, valueAfter}
 
 -- a text that may be read: at most 65,536 bytes, and UTF-8
 pub record Readable (s : List ℕ) : Type 0 where
@@ -112,29 +112,29 @@ pub record ValueAnswers : Type 0 where
 
 -- a code with decoded bytes: 5, 7 or 8
 abbrev pub Decodes : ℕ → Type 0
-Decodes code = (k : Kind) × (code ≡ kindOf k)
+Decodes code = (k : Allowed) × (code ≡ kindOf k)
 
 -- the answers of decoding into a buffer of `have` bytes: a count that fits, is at most the text's, and at most 65,536; or a refusal
 abbrev pub DecodeAnswered : ℕ → ℕ → Decode → Type 0
-DecodeAnswered m have (written n) = (n ≤ have) × (n ≤ m) × (n ≤ 65536)
+DecodeAnswered m have (given n) = (n ≤ have) × (n ≤ m) × (n ≤ 65536)
 DecodeAnswered m have (withheld n p) = Numbered m (42 ∷ 43 ∷ 44 ∷ 48 ∷ []) n p
 
 -- decoding likewise: 48 exactly where the buffer is shorter than the value, after everything that a reading can refuse
 pub record DecodeAnswers : Type 0 where
   pub answered : (code have : ℕ) (s : List ℕ) → DecodeAnswered (length s) have (decodeAt code s have)
   pub bad-code : (code have : ℕ) (s : List ℕ) → (Decodes code → ⊥) → decodeAt code s have ≡ withheld 42 none
-  pub too-long : (k : Kind) (have : ℕ) (s : List ℕ) → 65536 < length s → decodeAt (kindOf k) s have ≡ withheld 43 none
-  pub not-utf8 : (k : Kind) (have : ℕ) (s : List ℕ) → length s ≤ 65536 → (Utf8 s → ⊥) → decodeAt (kindOf k) s have ≡ withheld 44 none
-  pub own : (k : Kind) (have : ℕ) (s : List ℕ) {n : ℕ} {p : Place} → Readable s → stringRead k s ≡ refused n p
+  pub too-long : (k : Allowed) (have : ℕ) (s : List ℕ) → 65536 < length s → decodeAt (kindOf k) s have ≡ withheld 43 none
+  pub not-utf8 : (k : Allowed) (have : ℕ) (s : List ℕ) → length s ≤ 65536 → (Utf8 s → ⊥) → decodeAt (kindOf k) s have ≡ withheld 44 none
+  pub own : (k : Allowed) (have : ℕ) (s : List ℕ) {n : ℕ} {p : Place} → Readable s → stringRead k s ≡ refused n p
       → decodeAt (kindOf k) s have ≡ withheld n p
-  pub too-small : (k : Kind) (have : ℕ) (s : List ℕ) {kind e : ℕ} {vs : Values} → Readable s → stringRead k s ≡ accepted kind e vs
+  pub too-small : (k : Allowed) (have : ℕ) (s : List ℕ) {kind e : ℕ} {vs : Values} → Readable s → stringRead k s ≡ accepted kind e vs
       → have < length (stringValue k s) → decodeAt (kindOf k) s have ≡ withheld 48 none
-  pub decoded : (k : Kind) (have : ℕ) (s : List ℕ) {kind e : ℕ} {vs : Values} → Readable s → stringRead k s ≡ accepted kind e vs
+  pub decoded : (k : Allowed) (have : ℕ) (s : List ℕ) {kind e : ℕ} {vs : Values} → Readable s → stringRead k s ≡ accepted kind e vs
       → length (stringValue k s) ≤ have → decodeAt (kindOf k) s have ≡ written (length (stringValue k s))
   -- "if refused, with the output buffer exactly as it came"
   pub untouched : (code : ℕ) (s buf : List ℕ) {n : ℕ} {p : Place} → decodeAt code s (length buf) ≡ withheld n p → bufferAt code s buf ≡ buf
   -- else it holds the value, and behind it what it held there
-  pub filled : (k : Kind) (s buf : List ℕ) {n : ℕ} → decodeAt (kindOf k) s (length buf) ≡ written n → bufferAt (kindOf k) s buf ≡ over (stringValue k s) buf
+  pub filled : (k : Allowed) (s buf : List ℕ) {n : ℕ} → decodeAt (kindOf k) s (length buf) ≡ written n → bufferAt (kindOf k) s buf ≡ over (stringValue k s) buf
 
 -- 01, Type codes: the names
 abbrev pub integerName : IntegerType → List ℕ
@@ -164,7 +164,7 @@ pub record SuffixAnswers : Type 0 where
 
 -- the answers of settling, and of measuring where `have` is 65,536: a kind and a length that fits, or a refusal. No 42: they take no code
 abbrev pub SettleAnswered : ℕ → ℕ → Settle → Type 0
-SettleAnswered m have (formed k n) = (1 ≤ k) × (k ≤ 8) × (n ≤ have) × (n ≤ 65536)
+SettleAnswered m have (given (k, n)) = (1 ≤ k) × (k ≤ 8) × (n ≤ have) × (n ≤ 65536)
 SettleAnswered m have (settled.withheld n p) = Numbered m (43 ∷ 44 ∷ 45 ∷ 46 ∷ 47 ∷ 48 ∷ []) n p
 
 -- settling answers every text; what a reading refuses, it refuses so. (When it refuses an accepted text: Demand3.)
@@ -185,14 +185,14 @@ pub record NumberAnswers : Type 0 where
       → readingNumbers (readAt code s) ≡ k ∷ e ∷ valueNumbers vs
   pub no-reading : (code : ℕ) (s : List ℕ) {n : ℕ} {p : Place} → readAt code s ≡ refused n p → readingNumbers (readAt code s) ≡ 0 ∷ n ∷ placeNumbers p
   pub value : (code : ℕ) (s : List ℕ) {v : ℕ} → valueAt code s ≡ given v
-      → (valueCode (valueAt code s) ≡ 0) × ((before : ℕ) → valueAfter (valueAt code s) before ≡ v)
+      → (codeOf (λ v. 0) (valueAt code s) ≡ 0) × ((before : ℕ) → valueAfter (valueAt code s) before ≡ v)
   pub no-value : (code : ℕ) (s : List ℕ) {n : ℕ} {p : Place} → valueAt code s ≡ valued.withheld n p
-      → (valueCode (valueAt code s) ≡ 100000 + n) × ((before : ℕ) → valueAfter (valueAt code s) before ≡ before)
-  pub bytes : (code have : ℕ) (s : List ℕ) {n : ℕ} → decodeAt code s have ≡ written n → decodeCode (decodeAt code s have) ≡ n
+      → (codeOf (λ v. 0) (valueAt code s) ≡ 100000 + n) × ((before : ℕ) → valueAfter (valueAt code s) before ≡ before)
+  pub bytes : (code have : ℕ) (s : List ℕ) {n : ℕ} → decodeAt code s have ≡ written n → codeOf (λ n. n) (decodeAt code s have) ≡ n
   pub no-bytes : (code have : ℕ) (s : List ℕ) {n : ℕ} {p : Place} → decodeAt code s have ≡ withheld n p
-      → decodeCode (decodeAt code s have) ≡ 100000 + n
-  pub form : (have : ℕ) (s : List ℕ) {k n : ℕ} → settleAt s have ≡ formed k n → codeOf (settleAt s have) ≡ n
-  pub no-form : (have : ℕ) (s : List ℕ) {n : ℕ} {p : Place} → settleAt s have ≡ settled.withheld n p → codeOf (settleAt s have) ≡ 100000 + n
+      → codeOf (λ n. n) (decodeAt code s have) ≡ 100000 + n
+  pub form : (have : ℕ) (s : List ℕ) {k n : ℕ} → settleAt s have ≡ formed k n → codeOf (λ form. form .1) (settleAt s have) ≡ n
+  pub no-form : (have : ℕ) (s : List ℕ) {n : ℕ} {p : Place} → settleAt s have ≡ settled.withheld n p → codeOf (λ form. form .1) (settleAt s have) ≡ 100000 + n
 
 pub record Demand1 : Type 0 where
   pub read : ReadAnswers

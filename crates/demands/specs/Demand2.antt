@@ -15,6 +15,8 @@ use lib.ListN.{length, drop}
 use Rattle.err.specs.Outcome.{Values, accepted, Rawness, truth, digits, ends, value, decoded}
 use Rattle.buffer.specs.Buffer.{over}
 use Rattle.boolean.specs.Bool.{boolRead}
+use Rattle.escape.specs.declared.Allowed.{Allowed}
+use Rattle.escape.specs.declared.Allowed.the-variants.{Text, Bytes, C}
 use Rattle.integer.specs.Integer.{integerRead}
 use Rattle.integer_value.specs.Value.{bounded}
 use Rattle.integer_value.specs.Value as litrs
@@ -23,8 +25,6 @@ use Rattle.character.specs.Single.{charRead, byteRead}
 use Rattle.string.specs.String.{stringRead}
 use Rattle.string.specs.String as strings
 use Rattle.string.specs.Decode.{written, stringDecoded, bufferAfter}
-use Rattle.string.specs.declared.Kind.{Kind}
-use Rattle.string.specs.declared.Kind.the-variants.{Text, Bytes, C}
 use Rattle.literal.specs.Readings.{anyRead, readAt}
 use Rattle.literal.specs.Values.{valueAt}
 use Rattle.literal.specs.Decodes.{decodeAt, bufferAt}
@@ -53,8 +53,8 @@ pub record AsTheRust (s : List ℕ) : Type 0 where
   -- `IntegerLit::value` at a type whose largest value is `most`
   pub value : (code most : ℕ) → ValueType code most → valueAt code s ≡ litrs.integerValue most s
   -- the `value` of `StringLit`, `ByteStringLit` and `CStringLit`, written into a buffer that has `have` bytes or holds buf
-  pub decoded : (k : Kind) (have : ℕ) → decodeAt (strings.kindOf k) s have ≡ stringDecoded k s have
-  pub buffer : (k : Kind) (buf : List ℕ) → bufferAt (strings.kindOf k) s buf ≡ bufferAfter k s buf
+  pub decoded : (k : Allowed) (have : ℕ) → decodeAt (strings.kindOf k) s have ≡ stringDecoded k s have
+  pub buffer : (k : Allowed) (buf : List ℕ) → bufferAt (strings.kindOf k) s buf ≡ bufferAfter k s buf
 
 -- what holds of every accepted reading by an entry
 pub record Accepted (s : List ℕ) (code k e : ℕ) (vs : Values) : Type 0 where

@@ -2,3 +2,4 @@ pub mod Outcome
 pub mod Numbers
 pub mod Reading
 pub mod Checked
+pub mod Answer

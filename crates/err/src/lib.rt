@@ -1,10 +1,13 @@
-// Spans, error kinds, what a check finds, and readings: what every parser here answers.
+// Spans, error kinds, what a check finds, and readings: what every parser here returns.
 ghost use mathlib.Core.Path.{_≡_};
 ghost use lib.ListN.{length};
 ghost use Rattle.err.specs.Numbers.{numberOf};
 ghost use Prim.Native.Nat.{_-_};
 ghost use Rattle.err.specs.Outcome.{refused, none, between, shift, Ends};
 ghost use Rattle.err.specs.Reading.{placeOf, baseOf, prefixOf, prefixBytes, outcomeOf};
+
+// No text and no form is longer (01: "65,536 bytes").
+pub const MAX_LEN: usize = 65536;
 
 // Where a refusal stands: nowhere, or from one offset to another, the second excluded.
 pub enum Span {
@@ -77,7 +80,7 @@ pub enum IntegerBase {
     Hexadecimal,
 }
 
-// A base's prefix: its bytes, zeros behind them, and how many there are.
+// A base's prefix: its bytes, zeros after them, and how many there are.
 pub struct Prefix {
     pub bytes: [u8; 2],
     pub len: usize,
@@ -164,7 +167,7 @@ pub struct StringLit {
     pub start_suffix: usize,
 }
 
-// What reading a text answers.
+// What reading a text returns.
 pub enum Reading {
     Refused(ParseErrorKind, Span),
     Bool(BoolLit),
@@ -245,16 +248,6 @@ pub fn perr_nowhere(kind: ParseErrorKind) -> Reading
     ensures { λ r. ⌜ outcomeOf r ≡ refused (numberOf kind) none ⌝ }
 {
     Reading::Refused(kind, Span::Nowhere)
-}
-
-// A refusal at a span or at none. Taking the span apart is faster than copying it, since a copy loads more bytes than were stored.
-pub fn perr_at(kind: ParseErrorKind, span: Span) -> Reading
-    ensures { λ r. ⌜ outcomeOf r ≡ refused (numberOf kind) (placeOf span) ⌝ }
-{
-    match span {
-        Span::Nowhere => perr_nowhere(kind),
-        Span::Between(from, to) => perr(kind, from, to),
-    }
 }
 
 // A span counted from an offset before its text.

@@ -1,24 +1,23 @@
 -- One law for each way through an escape.
 -- Assumes nothing.
 use mathlib.Core.Path.{_≡_, refl}
-use mathlib.Core.Bool.{Bool, true, false, not, _&&_, _||_, and-false}
+use mathlib.Core.Bool.{true, false, and-false}
 use mathlib.Core.List.{List, [], _∷_}
 use Prim.Native.Nat.{ℕ, _+_, _*_, _≤_, _<_}
 use native.Mathlib.Omega.{arith}
-use borrow.Author.Tests.{lt-ltb, le-ltb, le-leb, eq-eqb, ne-eqb, eqb-true, eqb-false}
+use borrow.Author.Tests.{lt-ltb, le-ltb, le-leb, eq-eqb, ne-eqb}
 use lib.Dec.{eqb}
 use lib.ListN.{length, getD, take, drop}
 use Rattle.err.specs.Outcome.{between}
 use Rattle.scan.specs.Run.{run}
 use Rattle.scan.specs.Sets.{except}
-use Rattle.scan.proofs.Cases.{clash}
 use Rattle.parse.specs.Sets.{hexDigitOf}
 use Rattle.parse.specs.declared.HexDigit.the-variants.{Value, NotHex}
 use Rattle.utf8.specs.Cut.{isBoundary}
 use Rattle.escape.specs.Allows.{unicode, allowNul}
 use Rattle.escape.specs.declared.Allowed.{Allowed}
 use Rattle.escape.specs.declared.Unescaped.the-variants.{Byte}
-use Rattle.escape.specs.Escape.{value, bad, letterOf, unknownLetter, xByte, xEscape, hexFrom, badStart, uHex, uInner, uBraced, uEscape, escapeBy, escapeOf}
+use Rattle.escape.specs.Escape.{value, bad, letterOf, xByte, xEscape, hexFrom, badStart, uHex, uInner, uBraced, uEscape, escapeBy, escapeOf}
 use Rattle.escape.proofs.Hexes.{is-hex, not-hex}
 
 -- ---- `\x`
@@ -129,19 +128,3 @@ module _ (k : Allowed) (s : List ℕ) where
           pub unknown : (getD s 1 0 ≡ 117 → ⊥) → bad 8 (between 0 2) ≡ escapeOf k s
           unfolding escapeOf escapeBy
           unknown u = rw (le-ltb _ _ h, none, ne-eqb _ _ e, ne-eqb _ _ x, ne-eqb _ _ u)
-
--- ---- an unknown letter
-
-pub unknown-escape : (k : Allowed) (s : List ℕ) → 2 ≤ length s → unknownLetter (getD s 1 0) ≡ true → bad 8 (between 0 2) ≡ escapeOf k s
-unfolding unknownLetter
-unknown-escape k s l h =
-    let b = getD s 1 0 in
-    let t = tests (eqb b 48) (eqb b 120) (eqb b 117) (eqb (letterOf b) 0) h in
-    unknown k s l (eqb-true (letterOf b) 0 (t .3)) (eqb-false b 48 (t .0)) (eqb-false b 120 (t .1)) (eqb-false b 117 (t .2))
-  where
-    tests : (zero x u none : Bool) → (not (zero || (x || u)) && none) ≡ true → (zero ≡ false) × (x ≡ false) × (u ≡ false) × (none ≡ true)
-    tests true x u n h = clash h refl
-    tests false true u n h = clash h refl
-    tests false false true n h = clash h refl
-    tests false false false true h = (refl, refl, refl, refl)
-    tests false false false false h = clash h refl

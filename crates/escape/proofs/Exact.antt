@@ -198,7 +198,7 @@ run-stopped p s h =
 
 -- ---- what is read is an escape
 
--- the brace behind the digits
+-- the brace after the digits
 closed : (r : List ℕ) → (run (except 125) r + 3 ≡ suc (suc (suc (length r))) → ⊥)
     → (run (except 125) r < length r) × (getD r (run (except 125) r) 0 ≡ 125)
 unfolding except

@@ -51,7 +51,7 @@ pub not-brace : (b : ℕ) → classOf b < 16 → b ≡ 125 → ⊥
 unfolding classOf
 not-brace b h e = other 125 (omega arith) b h e
 
--- ---- the scan at offset i of d, behind n digits worth v
+-- ---- the scan at offset i of d, after n digits worth v
 
 module _ (d : List ℕ) (i n v : ℕ) where
   pub at-end : length d ≤ i → hexFrom i n v (drop i d) ≡ number v

@@ -1,6 +1,6 @@
 -- An escape's bytes and its refusal lie in what it was given; its value has fewer bytes than it, and a character is a scalar value.
 -- Assumes nothing.
-use mathlib.Core.Path.{_≡_, refl, subst}
+use mathlib.Core.Path.{_≡_, refl}
 use mathlib.Core.Bool.{Bool, true, false, not, _&&_, _||_}
 use mathlib.Core.Logic.{_↔_, inl, inr}
 use mathlib.Core.List.{List, [], _∷_}
@@ -20,7 +20,6 @@ use Rattle.utf8.specs.Cut.{isBoundary}
 use Rattle.utf8.proofs.Laws.{encode-length}
 use Rattle.escape.specs.Allows.{unicode, byteEscapes, allowNul}
 use Rattle.escape.specs.declared.Allowed.{Allowed}
-use Rattle.escape.specs.declared.Unescaped.{Unescaped}
 use Rattle.escape.specs.Escape.{Escaped, value, bad, bytesOf, Valid, letterOf, xByte, xEscape, Hex, number, fault, hexFrom, isScalar, uScalar, badStart, uHex, uInner, uBraced, uEscape, escapeBy, escapeOf}
 use Rattle.escape.proofs.Hexes.{FaultBelow, fault-below}
 use Rattle.escape.proofs.Escapes.{brace-there}
@@ -107,7 +106,3 @@ escape-in k s =
     cond-eq P b 48 (λ g. cond-in P (allowNul k) (λ a. (omega arith, h, omega arith, tt)) (λ a p. omega arith)) λ g.
     cond-eq P b 120 (λ x. x-in k s) λ x.
     cond-eq P b 117 (λ u. u-in k s h) λ u p. omega arith) λ f. (omega arith, h, omega arith, tt)
-
--- an escape is longer than what it stands for
-pub value-shorter : (k : Allowed) (s : List ℕ) {u : Unescaped} {n : ℕ} → escapeOf k s ≡ value u n → length (bytesOf u) < n
-value-shorter k s e = subst (EscapeIn (length s)) e (escape-in k s) .2

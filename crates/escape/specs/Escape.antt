@@ -1,4 +1,4 @@
--- What litrs's `unescape` (escape.rs) answers for the escape at the front of a byte list, in its order of tests.
+-- What litrs's `unescape` (escape.rs) returns for the escape at the front of a byte list, in its order of tests.
 -- Assumes nothing.
 use Prim.Native.Nat.{ℕ, _+_, _*_}
 use mathlib.Core.Bool.{Bool, true, cond, not, _&&_, _||_}
@@ -19,8 +19,6 @@ use Rattle.escape.specs.declared.Unescaped.{Unescaped}
 use Rattle.escape.specs.declared.Unescaped.the-variants.{Nothing, Byte, Unicode}
 use Rattle.escape.specs.declared.Escape.{Escape}
 use Rattle.escape.specs.declared.Escape.the-variants as escape
-use Rattle.escape.specs.declared.Digits.{Digits}
-use Rattle.escape.specs.declared.Digits.the-variants as digits
 
 -- ---- what an escape stands for
 
@@ -41,7 +39,7 @@ pub data Escaped : Type 0 where
   value : Unescaped → ℕ → Escaped
   bad : ℕ → Place → Escaped
 
--- 01's number and span for each case of the answer
+-- 01's number and span for each case of the result
 abbrev pub escapedOf : Escape → Escaped
 escapedOf (escape.Value u n) = value u n
 escapedOf (escape.Bad k s) = bad (numberOf k) (placeOf s)
@@ -57,10 +55,6 @@ letterOf b =
     (cond (eqb b 114) 13
     (cond (eqb b 116) 9
     (cond (eqb b 92) 92 0)))))
-
--- a byte behind a backslash for which `match first` has no arm but the last (law `unknown-escape`): no letter, and not `0`, `x` or `u`
-unfoldable pub unknownLetter : ℕ → Bool
-unknownLetter b = not (eqb b 48 || (eqb b 120 || eqb b 117)) && eqb (letterOf b) 0
 
 -- ---- `\x`
 
@@ -88,12 +82,7 @@ pub data Hex : Type 0 where
   number : ℕ → Hex
   fault : ℕ → ℕ → Hex
 
--- 01's number for each case of the scan's answer
-abbrev pub hexOf : Digits → Hex
-hexOf (digits.Value v) = number v
-hexOf (digits.Bad k i) = fault (numberOf k) i
-
--- the loop over `inner`, at offset i and behind n digits worth v: `_` is passed over, no hex digit is 15, a seventh digit is 16
+-- the loop over `inner`, at offset i and after n digits worth v: `_` is passed over, no hex digit is 15, a seventh digit is 16
 abbrev pub hexFrom : ℕ → ℕ → ℕ → List ℕ → Hex
 hexFrom i n v [] = number v
 hexFrom i n v (b ∷ s) =
@@ -113,7 +102,7 @@ uScalar k n v =
     cond (not (allowNul k) && eqb v 0) (bad 35 (between 0 n))
     (cond (isScalar v) (value (Unicode v) n) (bad 17 (between 0 n)))
 
--- a digit's fault spans that byte; the digits stand behind three bytes
+-- a digit's fault spans that byte; the digits stand after three bytes
 abbrev pub uHex : Allowed → ℕ → Hex → Escaped
 uHex k n (number v) = uScalar k n v
 uHex k n (fault num i) = bad num (between (i + 3) (i + 4))
@@ -127,13 +116,13 @@ badStart (b ∷ d) = eqb b 95
 unfoldable pub uInner : Allowed → List ℕ → Escaped
 uInner k d = cond (badStart d) (bad 13 (between 3 4)) (uHex k (length d + 4) (hexFrom 0 0 0 d))
 
--- behind `\u{`, with n bytes before the first `}`: none to the end is 18
+-- after `\u{`, with n bytes before the first `}`: none to the end is 18
 unfoldable pub uBraced : Allowed → List ℕ → ℕ → Escaped
 uBraced k s n =
     cond (eqb (n + 3) (length s)) (bad 18 (between 0 (length s)))
     (uInner k (take n (drop 3 s)))
 
--- the arm for `u`: first where the kind has no Unicode escapes (12), then no brace (14), then what stands behind it
+-- the arm for `u`: first where the kind has no Unicode escapes (12), then no brace (14), then what stands after it
 unfoldable pub uEscape : Allowed → List ℕ → Escaped
 uEscape k s =
     cond (unicode k)

@@ -14,7 +14,7 @@ use Rattle.escape.specs.declared.Allowed.{Allowed}
 use Rattle.escape.specs.declared.Unescaped.{Unescaped}
 use Rattle.escape.specs.declared.Unescaped.the-variants.{Byte, Unicode}
 
--- n hex digits, each with any number of `_` behind it, and their number
+-- n hex digits, each with any number of `_` after it, and their number
 pub data Hexes : ℕ → List ℕ → ℕ → Type 0 where
   one : {d : List ℕ} {v : ℕ} (b : ℕ) (us : List ℕ) → classOf b < 16 → All (only 95) us → d ≡ b ∷ us → v ≡ classOf b → Hexes 1 d v
   more : {n : ℕ} {d e : List ℕ} {v w : ℕ} (b : ℕ) (us : List ℕ) → Hexes n d v → classOf b < 16 → All (only 95) us

@@ -9,7 +9,7 @@ ghost use Prim.Native.Nat.{_+_, _≤_, _<_};
 ghost use lib.ListN.{length};
 ghost use Rattle.buffer.specs.Buffer.{Wrote};
 ghost use Rattle.escape.specs.Allows.{unicode, byteEscapes, allowNul};
-ghost use Rattle.escape.specs.Escape.{bytesOf, Valid, escapedOf, letterOf, unknownLetter, xByte, xEscape, hexOf, hexFrom, isScalar, uScalar, badStart, uInner, uEscape, escapeOf};
+ghost use Rattle.escape.specs.Escape.{bytesOf, Valid, escapedOf, letterOf, xByte, xEscape, hexFrom, isScalar, uScalar, uHex, badStart, uInner, uEscape, escapeOf};
 
 // What a kind of literal allows: as text (chars and strings), as bytes, as a C string.
 pub enum Allowed {
@@ -66,12 +66,6 @@ pub enum Escape {
     Bad(ParseErrorKind, Span),
 }
 
-// The number of some hex digits, or what is wrong with them and at which offset.
-pub enum Digits {
-    Value(u32),
-    Bad(ParseErrorKind, usize),
-}
-
 // A refusal of the first bytes, up to an end.
 fn bad(kind: ParseErrorKind, end: usize) -> Escape
     ensures { λ r. ⌜ r ≡ Escape.Bad kind (Span.Between 0 end) ⌝ }
@@ -98,16 +92,6 @@ pub fn letter(b: u8) -> u8
         b't' => b'\t',
         b'\\' => b'\\',
         _ => 0,
-    }
-}
-
-// Whether no escape has such a byte behind its backslash.
-pub fn is_unknown(b: u8) -> bool
-    ensures { λ r. ⌜ r ≡ unknownLetter b ⌝ }
-{
-    match b {
-        b'0' | b'x' | b'u' => false,
-        _ => letter(b) == 0,
     }
 }
 
@@ -140,33 +124,6 @@ fn x_escape(s: &[u8], k: Allowed) -> Escape
     x_byte(b + 16 * a, k)
 }
 
-// The number of the hex digits, with `_` among them.
-fn hex_digits(d: &[u8]) -> Digits
-    ensures { λ r. ⌜ hexOf r ≡ hexFrom 0 0 0 (now (d .entry)) ⌝ }
-{
-    let mut v: u32 = 0;
-    let mut n: u32 = 0;
-    let mut i = 0;
-    while i < d.len() {
-        let b = d[i];
-        if b == b'_' {
-            i += 1;
-            continue;
-        }
-        let digit = parse::hex_digit_value(b);
-        let HexDigit::Value(x) = digit else {
-            return Digits::Bad(ParseErrorKind::NonHexDigitInUnicodeEscape, i);
-        };
-        if n == 6 {
-            return Digits::Bad(ParseErrorKind::TooManyDigitInUnicodeEscape, i);
-        }
-        v = 16 * v + x as u32;
-        n += 1;
-        i += 1;
-    }
-    Digits::Value(v)
-}
-
 pub fn is_scalar(v: u32) -> bool
     ensures { λ r. ⌜ r ≡ isScalar v ⌝ }
 {
@@ -177,6 +134,14 @@ pub fn is_scalar(v: u32) -> bool
         return false;
     }
     v < 0x110000
+}
+
+// A refusal of the byte at an offset between the braces.
+fn bad_digit(kind: ParseErrorKind, i: usize) -> Escape
+    requires { ⌜ i + 4 < 18446744073709551616 ⌝ }
+    ensures { λ r. ⌜ r ≡ Escape.Bad kind (Span.Between (i + 3) (i + 4)) ⌝ }
+{
+    Escape::Bad(kind, Span::Between(i + 3, i + 4))
 }
 
 // An escape of n bytes whose digits are worth v.
@@ -190,6 +155,34 @@ fn u_scalar(v: u32, n: usize, k: Allowed) -> Escape
         return Escape::Value(Unescaped::Unicode(v), n);
     }
     bad(ParseErrorKind::InvalidUnicodeEscapeChar, n)
+}
+
+// The hex digits between the braces, with `_` among them.
+fn u_digits(d: &[u8], k: Allowed) -> Escape
+    requires { ⌜ length (now d) + 4 < 18446744073709551616 ⌝ }
+    ensures { λ r. ⌜ escapedOf r ≡ uHex k (length (now (d .entry)) + 4) (hexFrom 0 0 0 (now (d .entry))) ⌝ }
+{
+    let mut v: u32 = 0;
+    let mut n: u32 = 0;
+    let mut i = 0;
+    while i < d.len() {
+        let b = d[i];
+        if b == b'_' {
+            i += 1;
+            continue;
+        }
+        let digit = parse::hex_digit_value(b);
+        let HexDigit::Value(x) = digit else {
+            return bad_digit(ParseErrorKind::NonHexDigitInUnicodeEscape, i);
+        };
+        if n == 6 {
+            return bad_digit(ParseErrorKind::TooManyDigitInUnicodeEscape, i);
+        }
+        v = 16 * v + x as u32;
+        n += 1;
+        i += 1;
+    }
+    u_scalar(v, d.len() + 4, k)
 }
 
 // Whether there is no first byte, or it is `_`.
@@ -208,16 +201,9 @@ fn u_inner(d: &[u8], k: Allowed) -> Escape
     ensures { λ r. ⌜ escapedOf r ≡ uInner k (now (d .entry)) ⌝ }
 {
     if bad_start(d) {
-        return Escape::Bad(
-            ParseErrorKind::InvalidStartOfUnicodeEscape,
-            Span::Between(3, 4),
-        );
+        return bad_digit(ParseErrorKind::InvalidStartOfUnicodeEscape, 0);
     }
-    let digits = hex_digits(d);
-    match digits {
-        Digits::Value(v) => u_scalar(v, d.len() + 4, k),
-        Digits::Bad(kind, i) => Escape::Bad(kind, Span::Between(i + 3, i + 4)),
-    }
+    u_digits(d, k)
 }
 
 fn u_escape(s: &[u8], k: Allowed) -> Escape

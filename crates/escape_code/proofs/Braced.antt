@@ -1,4 +1,4 @@
--- The digits between braces, read in one pass from the left: the answer is the definition's, which looks for the `}` first.
+-- The digits between braces, read in one pass from the left: the result is the definition's, which looks for the `}` first.
 -- Assumes nothing.
 use mathlib.Core.Path.{_≡_, refl, ap, _∙_}
 use mathlib.Core.Bool.{Bool, true, cond}
@@ -12,8 +12,7 @@ use lib.ListN.{length, getD, take, drop, length-drop, drop-of-length-le}
 use lib.Seq.{drop-cons, length-take-le}
 use Rattle.scan.specs.Run.{run}
 use Rattle.scan.specs.Sets.{except}
-use Rattle.scan.proofs.Bytes.{byte-inside}
-use Rattle.scan.proofs.Cases.{cond-in, cond-eq, cond-lt, by-lt}
+use Rattle.scan.proofs.Cases.{cond-in, cond-eq, cond-lt}
 use Rattle.scan.proofs.Runs.{run-le}
 use Rattle.parse.specs.Class.{classOf}
 use Rattle.escape.specs.Allows.{unicode}
@@ -28,7 +27,7 @@ none : (t : Bool) → _≡_ {A = ℕ} 0 (cond t 0 0)
 none t = cond-in (λ (x : ℕ). 0 ≡ x) t (λ e. refl) (λ e. refl)
 
 module _ (k : Allowed) where
-  -- the code of an escape, read on from offset i, behind n digits worth v
+  -- the code of an escape, read on from offset i, after n digits worth v
   abbrev pub digitsCode : ℕ → ℕ → ℕ → List ℕ → ℕ
   digitsCode i n v [] = 0
   digitsCode i n v (b ∷ s) =
@@ -38,11 +37,11 @@ module _ (k : Allowed) where
       (cond (eqb b 125) (escapeCode (uScalar k (i + 1) v))
       (cond (eqb b 95) (digitsCode (i + 1) n v s) 0)))
 
-  -- the same by the definition, with n of len bytes before the `}`: 0 where there is none, or else the code of m bytes whose digits are h
+  -- this by the definition, with n of len bytes before the `}`: 0 where there is none, or else the code of m bytes whose digits are h
   abbrev closedCode : ℕ → ℕ → ℕ → Hex → ℕ
   closedCode n len m h = cond (eqb n len) 0 (escapeCode (uHex k m h))
 
-  -- behind the first byte; j is where the definition counts a fault
+  -- after the first byte; j is where the definition counts a fault
   behind : (s : List ℕ) (i j n v : ℕ) → 3 < i
       → digitsCode i n v s ≡ closedCode (run (except 125) s) (length s) (i + 1 + run (except 125) s) (hexFrom j n v (take (run (except 125) s) s))
   unfolding except
@@ -79,7 +78,7 @@ module _ (k : Allowed) where
       cond-eq (λ (x : ℕ). P 0) b 95 {x = 0} {y = 0} (λ g. rw (ne-eqb b 125 f, eqb·suc-suc, eq-eqb b 95 g) (none (eqb r (length s)))) λ g.
       rw (ne-eqb b 125 f, eqb·suc-suc, ne-eqb b 95 g, le-ltb (classOf b) 16 l) (none (eqb r (length s)))
 
-  -- THE LAW: behind `\u{` one pass gives the code of the escape
+  -- THE LAW: after `\u{` one pass gives the code of the escape
   pub digits-code : (s : List ℕ) → unicode k ≡ true → getD s 2 0 ≡ 123 → digitsCode 3 0 0 (drop 3 s) ≡ escapeCode (uEscape k s)
   digits-code s u e =
       let r : List ℕ = drop 3 s in
@@ -121,16 +120,3 @@ module _ (k : Allowed) where
 
             pub other : (getD s i 0 ≡ 95 → ⊥) → 0 ≡ digitsCode i n v (drop i s)
             other e = rw (drop-cons s i 0, le-ltb _ _ l, ne-eqb _ _ f, ne-eqb _ _ g, ne-eqb _ _ e)
-
-  -- ---- two digits
-
-  pub two-code : (s : List ℕ) → unicode k ≡ true → getD s 2 0 ≡ 123 → getD s 5 0 ≡ 125 → classOf (getD s 3 0) < 16 → classOf (getD s 4 0) < 16
-      → escapeCode (uScalar k 6 (16 * classOf (getD s 3 0) + classOf (getD s 4 0))) ≡ escapeCode (uEscape k s)
-  two-code s u e f a b =
-      let l = byte-inside s 5 125 f (omega arith) in
-      let high = by-lt (classOf (getD s 5 0)) 16 (λ h. absurd (not-brace _ h f)) (λ h. h) in
-      ap (λ (v : ℕ). escapeCode (uScalar k 6 v)) (omega arith)
-      ∙ brace s 5 2 (16 * (16 * 0 + classOf (getD s 3 0)) + classOf (getD s 4 0)) l high (λ x. omega arith) f
-      ∙ digit s 4 1 _ (omega arith) b (λ x. omega arith)
-      ∙ digit s 3 0 0 (omega arith) a (λ x. omega arith)
-      ∙ digits-code s u e

@@ -1,3 +1,2 @@
 pub mod Braced
 pub mod Codes
-pub mod At

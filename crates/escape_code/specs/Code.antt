@@ -1,7 +1,7 @@
 -- A piece of a body as one number: a loop gets it in one go, and 0 where there is none. For contracts between functions, no sentence of a
 -- document: laws `code-len` and `code-value` say that the number tells the piece.
 -- Assumes nothing.
-use Prim.Native.Nat.{ℕ, _+_, _-_, _*_, _/_, _%_, _≤_}
+use Prim.Native.Nat.{ℕ, _+_, _-_, _*_, _/_, _%_}
 use mathlib.Core.Bool.{cond}
 use lib.Dec.{eqb, ltb}
 use Rattle.escape.specs.Escape.{Escaped, value, bad}
@@ -34,7 +34,3 @@ valueBy v = cond (eqb v 0) Nothing (cond (ltb v 257) (Byte (v - 1)) (Unicode (v 
 -- what a coded piece stands for
 unfoldable pub codedValue : ℕ → Unescaped
 codedValue c = valueBy (c % 4294967296)
-
--- it stands for a byte: where `valueBy` gives one
-abbrev pub OfByte : ℕ → Type 0
-OfByte c = (1 ≤ c % 4294967296) × (c % 4294967296 ≤ 256)

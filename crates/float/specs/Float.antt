@@ -1,4 +1,4 @@
--- What litrs's `FloatLit::parse` answers (01, Floats), in its order of tests.
+-- What litrs's `FloatLit::parse` returns (01, Floats), in its order of tests.
 -- Assumes nothing.
 use Prim.Native.Nat.{ℕ, _+_, _-_}
 use mathlib.Core.Bool.{Bool, cond, _&&_, _||_}
@@ -6,7 +6,8 @@ use mathlib.Core.List.{List, [], _∷_}
 use lib.Dec.{eqb, ltb}
 use lib.ListN.{length, getD, take, drop}
 use Rattle.err.specs.Outcome.{Outcome, refused, accepted, none, between, ends}
-use Rattle.err.specs.Reading.{outcomeOf}
+use Rattle.err.specs.Numbers.{numberOf}
+use Rattle.err.specs.Reading.{placeOf, outcomeOf}
 use Rattle.err.specs.declared.Reading.the-variants as reading
 use Rattle.scan.specs.Run.{run}
 use Rattle.scan.specs.Sets.{only}
@@ -37,11 +38,11 @@ signEnd s at = cond (eqb (getD s (at + 1) 0) 45 || eqb (getD s (at + 1) 0) 43) (
 unfoldable pub noDigit : List ℕ → ℕ → ℕ → Bool
 noDigit s from end = eqb (run (only 95) (take (end - from) (drop from s))) (end - from)
 
--- where the exponent of a fraction that ends at an offset ends: there, where no `e` follows, or behind the exponent's digits
+-- where the exponent of a fraction that ends at an offset ends: there, where no `e` follows, or after the exponent's digits
 unfoldable pub exponentEnd : List ℕ → ℕ → ℕ
 exponentEnd s f = cond (startsE s f) (digitsEnd s (signEnd s f)) f
 
--- behind the fraction: an exponent without a digit is 7
+-- after the fraction: an exponent without a digit is 7
 unfoldable pub afterFraction : List ℕ → ℕ → ℕ → Outcome
 afterFraction s i f =
     cond (startsE s f)
@@ -50,15 +51,15 @@ afterFraction s i f =
     (afterNumber s i f (digitsEnd s (signEnd s f))))
     (afterNumber s i f f)
 
--- "Fraction not starting with `_`; a bare period ends the text": of digits from one offset, behind the period, to another
+-- "Fraction not starting with `_`; a bare period ends the text": of digits from one offset, after the period, to another
 unfoldable pub badFraction : List ℕ → ℕ → ℕ → Bool
 badFraction s from end = eqb (getD s from 0) 95 || (eqb end from && ltb from (length s))
 
--- where the fraction of an integer part that ends at an offset ends: there, where no period follows, or behind the period's digits
+-- where the fraction of an integer part that ends at an offset ends: there, where no period follows, or after the period's digits
 unfoldable pub fractionEnd : List ℕ → ℕ → ℕ
 fractionEnd s i = cond (eqb (getD s i 0) 46) (digitsEnd s (i + 1)) i
 
--- behind the integer part: a period and what may not follow it are 2, where that stands
+-- after the integer part: a period and what may not follow it are 2, where that stands
 unfoldable pub afterInteger : List ℕ → ℕ → Outcome
 afterInteger s i =
     cond (eqb (getD s i 0) 46)
@@ -76,3 +77,8 @@ floatRead (b ∷ s) = cond (decDigit b) (afterInteger (b ∷ s) (run (digit 10) 
 abbrev pub parsedOf : Parsed → Outcome
 parsedOf (parsed.Lit l) = outcomeOf (reading.Float l)
 parsedOf (parsed.Refused k p) = outcomeOf (reading.Refused k p)
+
+-- the refusal of a refused answer; a literal has none, and 3 without a span stands for it
+abbrev pub refusalOf : Parsed → Outcome
+refusalOf (parsed.Lit l) = refused 3 none
+refusalOf (parsed.Refused k p) = refused (numberOf k) (placeOf p)

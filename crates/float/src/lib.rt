@@ -10,7 +10,7 @@ ghost use mathlib.Core.Path.{_≡_};
 ghost use Prim.Native.Nat.{_≤_, _<_};
 ghost use lib.ListN.{length};
 ghost use Rattle.err.specs.Reading.{outcomeOf};
-ghost use Rattle.float.specs.Float.{parsedOf, notInteger, badFraction, signEnd, noDigit, fractionEnd, exponentEnd, afterNumber, afterInteger, floatRead};
+ghost use Rattle.float.specs.Float.{parsedOf, refusalOf, notInteger, badFraction, signEnd, noDigit, fractionEnd, exponentEnd, afterNumber, afterInteger, floatRead};
 
 // A float literal, or why a text is none.
 pub enum Parsed {
@@ -28,7 +28,7 @@ fn not_integer(lit: FloatLit) -> Parsed
     Parsed::Lit(lit)
 }
 
-// Behind the number: the suffix.
+// After the number: the suffix.
 fn after_number(text: &[u8], lit: FloatLit) -> Parsed
     requires { ⌜ lit .«end_number_part» ≤ length (now text) ⌝ }
     ensures { λ r. ⌜ parsedOf r ≡ afterNumber (now (text .entry)) (lit .«end_integer_part») (lit .«end_fractional_part») (lit .«end_number_part») ⌝ }
@@ -45,7 +45,7 @@ fn after_number(text: &[u8], lit: FloatLit) -> Parsed
     Parsed::Refused(kind, Span::Between(end, text.len()))
 }
 
-// Where the exponent's digits start: behind `e` and its sign, if it has one.
+// Where the exponent's digits start: after `e` and its sign, if it has one.
 fn sign_end(text: &[u8], at: usize) -> usize
     requires { ⌜ at < length (now text) ⌝ }
     ensures { λ r. ⌜ (r ≡ signEnd (now (text .entry)) at) × (r ≤ length (now (text .entry))) ⌝ }
@@ -69,7 +69,7 @@ fn no_digit(text: &[u8], from: usize, end: usize) -> bool
     scan::run_len(&text[from..end], ByteSet::Only(b'_')) == end - from
 }
 
-// Whether what stands behind the period may not: `_`, or, where no digit follows, anything.
+// Whether what stands after the period may not: `_`, or, where no digit follows, anything.
 fn bad_fraction(text: &[u8], from: usize, end: usize) -> bool
     ensures { λ r. ⌜ r ≡ badFraction (now (text .entry)) from end ⌝ }
 {
@@ -82,7 +82,7 @@ fn bad_fraction(text: &[u8], from: usize, end: usize) -> bool
     from < text.len()
 }
 
-// Where the fraction ends: behind the period and its digits, if there is a period.
+// Where the fraction ends: after the period and its digits, if there is a period.
 fn fraction_end(text: &[u8], i: usize) -> usize
     requires { ⌜ i ≤ length (now text) ⌝ }
     ensures { λ r. ⌜ (r ≡ fractionEnd (now (text .entry)) i) × (r ≤ length (now (text .entry))) ⌝ }
@@ -94,7 +94,7 @@ fn fraction_end(text: &[u8], i: usize) -> usize
     from + digits::end_dec_digits(&text[from..])
 }
 
-// Where the exponent ends: behind `e`, its sign and its digits, if there is an `e`.
+// Where the exponent ends: after `e`, its sign and its digits, if there is an `e`.
 fn exponent_end(text: &[u8], f: usize) -> usize
     requires { ⌜ f ≤ length (now text) ⌝ }
     ensures { λ r. ⌜ (r ≡ exponentEnd (now (text .entry)) f) × (r ≤ length (now (text .entry))) ⌝ }
@@ -106,7 +106,7 @@ fn exponent_end(text: &[u8], f: usize) -> usize
     from + digits::end_dec_digits(&text[from..])
 }
 
-// Behind the integer part: fraction, exponent and suffix.
+// After the integer part: fraction, exponent and suffix.
 fn after_integer(text: &[u8], i: usize) -> Parsed
     requires { ⌜ i ≤ length (now text) ⌝ }
     ensures { λ r. ⌜ parsedOf r ≡ afterInteger (now (text .entry)) i ⌝ }
@@ -151,12 +151,22 @@ fn parse_lit(text: &[u8]) -> Parsed
     Parsed::Refused(ParseErrorKind::DoesNotStartWithDigit, Span::Between(0, 1))
 }
 
+// The refusal as a reading. A literal has none; 3 stands for it, and no caller hands one in.
+fn refusal(parsed: Parsed) -> Reading
+    ensures { λ r. ⌜ outcomeOf r ≡ refusalOf parsed ⌝ }
+{
+    match parsed {
+        Parsed::Lit(_) => err::perr_nowhere(ParseErrorKind::InvalidLiteral),
+        Parsed::Refused(kind, span) => Reading::Refused(kind, span),
+    }
+}
+
 pub fn parse(text: &[u8]) -> Reading
     ensures { λ r. ⌜ outcomeOf r ≡ floatRead (now (text .entry)) ⌝ }
 {
     let parsed = parse_lit(text);
-    match parsed {
-        Parsed::Lit(lit) => Reading::Float(lit),
-        Parsed::Refused(kind, span) => Reading::Refused(kind, span),
-    }
+    let Parsed::Lit(lit) = parsed else {
+        return refusal(parsed);
+    };
+    Reading::Float(lit)
 }

@@ -9,17 +9,15 @@ use native.Mathlib.Nat.{not-suc-le-zero}
 use lib.Dec.{ltb}
 use lib.ListN.{length, drop, length-drop}
 use borrow.Author.Tests.{lt-ltb, le-ltb}
-use Rattle.buffer.specs.Digits.{hexDigits}
 use Rattle.utf8.specs.Utf8.{Utf8, encode}
 use Rattle.utf8.specs.Decode.{decode}
 use Rattle.utf8.specs.declared.Decoded.{Decoded}
 use Rattle.utf8.specs.declared.Decoded.the-variants.{Char, Bad}
 use Rattle.utf8.proofs.Laws.{is-row1, by-row, encode-length, Found, decode-found}
 use Rattle.utf8.proofs.Text.{utf8-bad, utf8-rest}
-use Rattle.grammar.specs.Escapes.{COMMON-ESCAPE, lf, cr, ht, reverse-solidus, nul}
-use Rattle.form.specs.Escapes.{xForm, asciiForm, charForm, byteForm, charFormsWithin, charForms}
+use Rattle.form.specs.Escapes.{asciiForm, charForm, charFormsWithin, charForms}
 use Rattle.form.proofs.Fit.{Each}
-use Rattle.form.proofs.Bytes.{cond-lt, by-ascii}
+use Rattle.form.proofs.Bytes.{cond-lt}
 
 -- one byte of a string of kind 5: from 128 up it stands as itself
 abbrev pub textForm : ℕ → ℕ → List ℕ
@@ -76,29 +74,3 @@ module _ (q : ℕ) where
 pub by-bytes : (v : List ℕ) → Utf8 v → charForms 34 v ≡ textForms 34 v
 unfolding charForms
 by-bytes v u = within 34 (length v) v (omega arith) u
-
--- ---- one byte is written with one to four
-
-abbrev pub Few : List ℕ → Type 0
-Few t = (1 ≤ length t) × (length t ≤ 4)
-
-simple-few : (t : List ℕ) (b : ℕ) → COMMON-ESCAPE t b → Few t
-simple-few _ _ lf = omega arith
-simple-few _ _ cr = omega arith
-simple-few _ _ ht = omega arith
-simple-few _ _ reverse-solidus = omega arith
-simple-few _ _ nul = omega arith
-
-x-few : (b : ℕ) → Few (xForm b)
-unfolding hexDigits
-x-few b = omega arith
-
-ascii-few : (q b : ℕ) → Few (asciiForm q b)
-ascii-few q b = by-ascii q b Few (λ t s. simple-few t b s) (λ e. omega arith) (λ _ _ _ _. omega arith) (x-few b)
-
-pub byte-few : (q b : ℕ) → Few (byteForm q b)
-unfolding byteForm
-byte-few q b = cond-lt Few b 128 (λ h. ascii-few q b) (λ h. x-few b)
-
-pub text-few : (q b : ℕ) → Few (textForm q b)
-text-few q b = cond-lt Few b 128 (λ h. ascii-few q b) (λ h. omega arith)

@@ -1,37 +1,35 @@
 -- A string that surely fits has a form, and the form with its suffix is short and fits.
 -- Assumes nothing.
 use mathlib.Core.Path.{_≡_, refl, sym, ap, _∙_}
-use mathlib.Core.Bool.{Bool, true, false, _||_, and-eq-true-iff}
+use mathlib.Core.Bool.{true, and-eq-true-iff}
 use mathlib.Core.List.{List, []}
 use Prim.Native.Nat.{ℕ, _+_, _-_, _*_, _≤_}
 use native.Mathlib.Omega.{arith}
 use borrow.Author.Tests.{leb-true}
 use lib.Dec.{leb}
 use lib.ListN.{length}
-use Rattle.err.specs.Outcome.{Outcome, accepted, Rawness, notRaw, raw, decoded}
-use Rattle.err.specs.Reading.{hashesOf, outcomeOf}
+use Rattle.err.specs.Outcome.{Outcome}
+use Rattle.err.specs.Reading.{outcomeOf}
 use Rattle.err.specs.declared.StringLit.{StringLit}
 use Rattle.err.specs.declared.Reading.{Reading}
 use Rattle.err.specs.declared.Reading.the-variants as reading
 use Rattle.numbers.specs.Numbers.{suffixIn}
 use Rattle.scan.proofs.Cases.{clash}
+use Rattle.escape.specs.declared.Allowed.{Allowed}
+use Rattle.escape.specs.declared.Allowed.the-variants.{Text, Bytes, C}
 use Rattle.grammar.specs.Meaning as worth
 use Rattle.form.specs.Form.{bareForm}
 use Rattle.quoting.specs.Styled.{styledForms}
 use Rattle.quoting.proofs.Styles.{forms-short}
-use Rattle.string.specs.String.{stringRead, stringValue}
-use Rattle.string.specs.declared.Kind.{Kind}
-use Rattle.string.specs.declared.Kind.the-variants.{Text, Bytes, C}
+use Rattle.string.specs.String.{stringValue}
 use Rattle.string.proofs.Literals.{value-length}
 use Rattle.string_form.specs.Strings.{worthIn, openingOf, wideIn}
-use Rattle.string_form.specs.Shown.{allShown}
 use Rattle.string_form.proofs.Bare.{read-length, opening-short}
-use Rattle.string_form.proofs.Short.{string-short}
 use Rattle.literal.specs.Readings.{readAt}
-use Rattle.bare_form.proofs.Readings.{short, utf8, stringIn, string-read}
+use Rattle.bare_form.proofs.Readings.{utf8, stringIn, string-read}
 use Rattle.bare_form.proofs.Lengths.{plain-bare}
 use Rattle.bare_form.specs.Bare.{len, bareBy, bareFormBy}
-use Rattle.form_bound.specs.Bound.{boundFits, textFits, surelyFits}
+use Rattle.form_bound.specs.Bound.{boundFits, surelyFits}
 
 -- a reading o of a text s has a form, which with the suffix has at most 65,536 bytes and at most `have`
 pub record Sure (s : List ℕ) (o : Outcome) (have : ℕ) : Type 0 where
@@ -48,20 +46,16 @@ fits-sum n m have e =
     (leb-true _ _ (t .0), leb-true _ _ (t .1))
 
 module _ (s : List ℕ) (have : ℕ) where
-  string-form : (k : Kind) (lit : StringLit) → let o = stringIn k lit in
+  string-form : (k : Allowed) (lit : StringLit) → let o = stringIn k lit in
       (bareFormBy s o ≡ bareForm (worthIn k (stringValue k s)) []) × (bareBy s o ≡ len (length (bareFormBy s o)))
   string-form Text lit = (refl, sym (plain-bare (worth.string _) _ refl))
   string-form Bytes lit = (refl, sym (plain-bare (worth.byte-string _) _ refl))
   string-form C lit = (refl, sym (plain-bare (worth.c-string _) _ refl))
 
-  module _ (k : Kind) (lit : StringLit) (is : stringIn k lit ≡ readAt 0 s) where
+  module _ (k : Allowed) (lit : StringLit) (is : stringIn k lit ≡ readAt 0 s) where
     -- the form and the suffix
     string-size : length (bareFormBy s (stringIn k lit)) ≡ length (openingOf k) + length (styledForms (wideIn k) 34 (stringValue k s)) + 1
     string-size = ap length (string-form k lit .0) ∙ read-length k s lit (utf8 s is) (string-read s k lit is)
-
-    string-sure : length (bareFormBy s (stringIn k lit)) + (length s - lit .«start_suffix») ≤ 65536
-        → length (bareFormBy s (stringIn k lit)) + (length s - lit .«start_suffix») ≤ have → Sure s (stringIn k lit) have
-    string-sure a b = record { form = string-form k lit .1; short = a; room = b }
 
     bound-sure : boundFits (lit .«value_len») (length s - lit .«start_suffix») have ≡ true → Sure s (stringIn k lit) have
     bound-sure e =
@@ -74,37 +68,13 @@ module _ (s : List ℕ) (have : ℕ) where
           forms-short (wideIn k) 34 (stringValue k s),
           value-length k s (sym (string-read s k lit is)),
         ) in
-        string-sure (omega (arith, m .0)) (omega (arith, m .1))
-
-    -- by the bound, or by another test
-    by-bound : {t : Bool} → (t ≡ true → Sure s (stringIn k lit) have)
-        → (boundFits (lit .«value_len») (length s - lit .«start_suffix») have || t) ≡ true → Sure s (stringIn k lit) have
-    by-bound {t} = go (boundFits (lit .«value_len») (length s - lit .«start_suffix») have) bound-sure
-      where
-        go : (b : Bool) → (b ≡ true → Sure s (stringIn k lit) have) → (t ≡ true → Sure s (stringIn k lit) have) → (b || t) ≡ true
-            → Sure s (stringIn k lit) have
-        go true f g e = f refl
-        go false f g e = g e
-
-  -- a string of kind 5 by its text
-  text-sure : (lit : StringLit) → stringIn Text lit ≡ readAt 0 s → textFits (hashesOf (lit .hashes)) s have ≡ true → Sure s (stringIn Text lit) have
-  text-sure lit is = go (hashesOf (lit .hashes)) (sym (string-read s Text lit is))
-    where
-      go : (r : Rawness) → stringRead Text s ≡ accepted 5 (lit .«start_suffix») (decoded r (lit .«value_len»)) → textFits r s have ≡ true
-          → Sure s (stringIn Text lit) have
-      go notRaw g e =
-          let t = and-eq-true-iff (leb (length s) have) (allShown s) .0 e in
-          let room = leb-true (length s) have (t .0) in
-          let most = string-short s g (t .1) in
-          let small = short s is in
-          string-sure Text lit is (omega (arith, string-size Text lit is)) (omega (arith, string-size Text lit is))
-      go (raw h) g e = clash e refl
+        record { form = string-form k lit .1; short = omega (arith, m .0); room = omega (arith, m .1) }
 
   -- THE LAW: a string that surely fits has a form that fits
   pub surely : (found : Reading) → let o = outcomeOf found in o ≡ readAt 0 s → surelyFits s o have ≡ true → Sure s o have
-  surely (reading.String lit) is e = by-bound Text lit is (text-sure lit is) e
-  surely (reading.ByteString lit) is e = by-bound Bytes lit is (λ f. clash f refl) e
-  surely (reading.CString lit) is e = by-bound C lit is (λ f. clash f refl) e
+  surely (reading.String lit) is e = bound-sure Text lit is e
+  surely (reading.ByteString lit) is e = bound-sure Bytes lit is e
+  surely (reading.CString lit) is e = bound-sure C lit is e
   surely (reading.Refused k p) is e = clash e refl
   surely (reading.Bool lit) is e = clash e refl
   surely (reading.Integer lit) is e = clash e refl

@@ -1,25 +1,19 @@
 -- Forms that fit for sure: for contracts between functions, no sentence of a document. Law `surely` says that they are given.
 -- Assumes nothing.
-use mathlib.Core.Bool.{Bool, false, _&&_, _||_}
+use mathlib.Core.Bool.{Bool, false, _&&_}
 use mathlib.Core.List.{List}
 use Prim.Native.Nat.{ℕ, _+_, _-_, _*_}
-use lib.Dec.{eqb, leb}
+use lib.Dec.{leb}
 use lib.ListN.{length}
-use Rattle.err.specs.Outcome.{truth, digits, ends, value, decoded, Outcome, refused, accepted, Rawness, notRaw, raw}
-use Rattle.string_form.specs.Shown.{allShown}
+use Rattle.err.specs.Outcome.{truth, digits, ends, value, decoded, Outcome, refused, accepted}
 
 -- a value of n bytes, each at most four in a form, with quotes and letter, and a suffix of m bytes fit into a form and into `have` bytes
 unfoldable pub boundFits : ℕ → ℕ → ℕ → Bool
 boundFits n m have = leb (4 * n + 3 + m) 65536 && leb (4 * n + 3 + m) have
 
--- of kind 5: a string that is not raw, in a text of at most `have` bytes that has no control character, has a form no longer than the text
-abbrev pub textFits : Rawness → List ℕ → ℕ → Bool
-textFits notRaw s have = leb (length s) have && allShown s
-textFits (raw h) s have = false
-
--- a reading of a text s whose form fits for sure: only strings are judged so, by the bound, and those of kind 5 by their text too
+-- a reading of a text s whose form fits for sure: only strings are judged so
 abbrev pub surelyFits : List ℕ → Outcome → ℕ → Bool
-surelyFits s (accepted k e (decoded r n)) have = boundFits n (length s - e) have || (eqb k 5 && textFits r s have)
+surelyFits s (accepted k e (decoded r n)) have = boundFits n (length s - e) have
 surelyFits s (accepted k e (truth b)) have = false
 surelyFits s (accepted k e (digits b i j)) have = false
 surelyFits s (accepted k e (ends i f j)) have = false

@@ -9,7 +9,7 @@ ghost use Rattle.input.specs.Checks.{textFault};
 pub fn check_text(text: &[u8]) -> Checked
     ensures { λ r. ⌜ checkedOf r ≡ textFault (now (text .entry)) ⌝ }
 {
-    if 65536 < text.len() {
+    if err::MAX_LEN < text.len() {
         return Checked::Bad(ParseErrorKind::TextTooLong);
     }
     if validation::is_utf8(text) {

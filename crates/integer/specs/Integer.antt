@@ -1,4 +1,4 @@
--- What litrs's `IntegerLit::parse` answers (01, Integers), in its order of tests.
+-- What litrs's `IntegerLit::parse` returns (01, Integers), in its order of tests.
 -- Assumes nothing.
 use Prim.Native.Nat.{ℕ, _+_, _≤_}
 use mathlib.Core.Path.{_≡_}
@@ -7,7 +7,8 @@ use mathlib.Core.List.{List, [], _∷_}
 use lib.Dec.{eqb}
 use lib.ListN.{length, getD, take, drop}
 use Rattle.err.specs.Outcome.{Outcome, refused, accepted, none, between, digits}
-use Rattle.err.specs.Reading.{baseOf, prefixOf, outcomeOf}
+use Rattle.err.specs.Numbers.{numberOf}
+use Rattle.err.specs.Reading.{placeOf, baseOf, prefixOf, outcomeOf}
 use Rattle.err.specs.declared.IntegerBase.{IntegerBase}
 use Rattle.err.specs.declared.IntegerLit.{IntegerLit}
 use Rattle.err.specs.declared.Reading.the-variants as reading
@@ -81,6 +82,11 @@ integerRead (b ∷ s) = cond (decDigit b) (integerAt (b ∷ s)) (refused 4 (betw
 abbrev pub parsedOf : Parsed → Outcome
 parsedOf (parsed.Lit l) = outcomeOf (reading.Integer l)
 parsedOf (parsed.Refused k p) = outcomeOf (reading.Refused k p)
+
+-- the refusal of a refused answer; a literal has none, and 3 without a span stands for it
+abbrev pub refusalOf : Parsed → Outcome
+refusalOf (parsed.Lit l) = refused 3 none
+refusalOf (parsed.Refused k p) = refused (numberOf k) (placeOf p)
 
 -- what the scan of base and digits finds
 pub record Scanned (l : IntegerLit) (s : List ℕ) : Type 0 where

@@ -5,6 +5,7 @@ use err::IntegerLit;
 use err::ParseErrorKind;
 use err::Reading;
 use err::Span;
+use parse::ClassSet;
 use scan::Byte;
 use scan::ByteSet;
 ghost use mathlib.Core.Path.{_≡_};
@@ -13,7 +14,7 @@ ghost use lib.ListN.{length};
 ghost use Rattle.err.specs.Reading.{outcomeOf, baseOf, prefixOf};
 ghost use Rattle.scan.specs.Run.{run};
 ghost use Rattle.parse.specs.Sets.{digit};
-ghost use Rattle.integer.specs.Integer.{baseAt, hasPrefix, Scanned, parsedOf, afterSuffix, integerAt, integerRead};
+ghost use Rattle.integer.specs.Integer.{baseAt, hasPrefix, Scanned, parsedOf, refusalOf, afterSuffix, integerAt, integerRead};
 
 // An integer literal, or why a text is none.
 pub enum Parsed {
@@ -58,7 +59,7 @@ fn main_len(s: &[u8], base: IntegerBase) -> usize
     ensures { λ r. ⌜ r ≡ run (digit (baseOf base)) (now (s .entry)) ⌝ }
 {
     let IntegerBase::Decimal = base else {
-        return digits::end_digits(s, base.value());
+        return parse::run_len(s, ClassSet::Digits(base.value()));
     };
     digits::end_dec_digits(s)
 }
@@ -136,12 +137,22 @@ fn parse_lit(text: &[u8]) -> Parsed
     Parsed::Refused(ParseErrorKind::DoesNotStartWithDigit, Span::Between(0, 1))
 }
 
+// The refusal as a reading. A literal has none; 3 stands for it, and no caller hands one in.
+fn refusal(parsed: Parsed) -> Reading
+    ensures { λ r. ⌜ outcomeOf r ≡ refusalOf parsed ⌝ }
+{
+    match parsed {
+        Parsed::Lit(_) => err::perr_nowhere(ParseErrorKind::InvalidLiteral),
+        Parsed::Refused(kind, span) => Reading::Refused(kind, span),
+    }
+}
+
 pub fn parse(text: &[u8]) -> Reading
     ensures { λ r. ⌜ outcomeOf r ≡ integerRead (now (text .entry)) ⌝ }
 {
     let parsed = parse_lit(text);
-    match parsed {
-        Parsed::Lit(lit) => Reading::Integer(lit),
-        Parsed::Refused(kind, span) => Reading::Refused(kind, span),
-    }
+    let Parsed::Lit(lit) = parsed else {
+        return refusal(parsed);
+    };
+    Reading::Integer(lit)
 }

@@ -4,7 +4,7 @@ use mathlib.Core.Path.{_≡_, refl, sym, _∙_}
 use mathlib.Core.Bool.{Bool, true, false, cond}
 use mathlib.Core.List.{List, [], _∷_, _++_, foldl}
 use Prim.Native.Nat.{ℕ, _+_, _*_, _-_, _/_, _≤_, _<_}
-use native.Mathlib.Nat.{add-mul, div-lt-iff-lt-mul, le-div-iff-mul-le, le-mul-of-pos-right}
+use native.Mathlib.Nat.{div-lt-iff-lt-mul, le-div-iff-mul-le, le-mul-of-pos-right}
 use native.Mathlib.Numerals.{add-one}
 use native.Mathlib.Omega.{arith}
 use borrow.Author.Tests.{ltb-true, le-leb, lt-leb, eq-eqb, ne-eqb}
@@ -55,9 +55,6 @@ within-over largest m h = rw (lt-leb m largest h)
 module _ (n d by largest : ℕ) (p : 2 ≤ by) where
   some : 0 < by
   some = omega arith
-
-  pub far-within : n + 11 ≤ largest / by → d ≤ 20 → true ≡ leb (n * by + d) largest
-  far-within h l = sym (le-leb (n * by + d) largest (omega (arith, le-div-iff-mul-le some .0 h, add-mul n 11 by)))
 
   pub past-within : largest / by < n → false ≡ leb (n * by + d) largest
   past-within h = sym (lt-leb (n * by + d) largest (omega (arith, div-lt-iff-lt-mul some .0 h)))

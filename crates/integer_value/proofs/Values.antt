@@ -8,7 +8,7 @@ use native.Mathlib.Nat.{sub-zero, zero-sub, suc-sub-suc}
 use lib.Dec.{leb}
 use lib.ListN.{length, take, drop}
 use lib.Seq.{slice, take-nil, take-append-add, take-append-seam, drop-append-seam}
-use Rattle.err.specs.Outcome.{Place, refused, accepted, none, digits}
+use Rattle.err.specs.Outcome.{accepted, none, digits}
 use Rattle.integer.specs.Integer.{integerRead}
 use Rattle.integer.specs.Parts.{IntegerParts}
 use Rattle.integer.proofs.Parts.{sound, complete, main-part}
@@ -41,10 +41,6 @@ unfolding integerValue
 value-of-parts largest h = rw (complete h, main-part h, h .plain)
 
 -- ---- by a reading
-
-pub value-refused : (largest : ℕ) (s : List ℕ) {n : ℕ} {p : Place} → refused n p ≡ integerRead s → withheld n p ≡ integerValue largest s
-unfolding integerValue
-value-refused largest s h = rw (← h)
 
 pub read-value : (largest : ℕ) (s : List ℕ) {k n base a e : ℕ} → integerRead s ≡ accepted k n (digits base a e) → bounded largest (number base (slice a e s)) ≡ integerValue largest s
 read-value largest s {k} {n} {base} {a} {e} h =

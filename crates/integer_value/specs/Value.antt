@@ -1,10 +1,12 @@
--- What litrs's `IntegerLit::value` answers at a type, over the type's largest value (01, Integers).
+-- What litrs's `IntegerLit::value` returns at a type, over the type's largest value (01, Integers).
 -- Assumes nothing.
 use Prim.Native.Nat.{ℕ, _+_, _*_}
 use mathlib.Core.Bool.{cond}
 use mathlib.Core.List.{List, [], _∷_}
 use lib.Dec.{eqb, leb}
-use Rattle.err.specs.Outcome.{Place, Outcome, refused, accepted, none}
+use Rattle.err.specs.Outcome.{Outcome, refused, accepted, none}
+use Rattle.err.specs.Answer.{Answer}
+pub use Rattle.err.specs.Answer.{given, withheld}
 use Rattle.err.specs.Numbers.{numberOf}
 use Rattle.err.specs.Reading.{placeOf}
 use Rattle.parse.specs.Class.{classOf}
@@ -14,7 +16,7 @@ use Rattle.integer_value.specs.declared.Within.the-variants.{Number, Ove
 use Rattle.integer_value.specs.declared.IntegerValue.{IntegerValue}
 use Rattle.integer_value.specs.declared.IntegerValue.the-variants as value
 
--- the number that digits of a base write behind a number n already read; `_` is passed over
+-- the number that digits of a base write after a number n already read; `_` is passed over
 abbrev pub numberFrom : ℕ → ℕ → List ℕ → ℕ
 numberFrom base n [] = n
 numberFrom base n (b ∷ s) = cond (eqb b 95) (numberFrom base n s) (numberFrom base (n * base + classOf b) s)
@@ -27,10 +29,9 @@ number base s = numberFrom base 0 s
 abbrev pub numberWithin : ℕ → ℕ → Within
 numberWithin largest n = cond (leb n largest) (Number n) Over
 
--- a value, or a refusal's number and span
-pub data Valued : Type 0 where
-  given : ℕ → Valued
-  withheld : ℕ → Place → Valued
+-- a value, or a refusal
+abbrev pub Valued : Type 0
+Valued = Answer ℕ
 
 abbrev pub valuedOf : IntegerValue → Valued
 valuedOf (value.Given n) = given n

@@ -4,7 +4,7 @@ use err::IntegerLit;
 use err::ParseErrorKind;
 use err::Span;
 ghost use mathlib.Core.Path.{_≡_};
-ghost use Prim.Native.Nat.{_+_, _-_, _*_, _/_, _≤_};
+ghost use Prim.Native.Nat.{_+_, _*_, _/_, _≤_};
 ghost use lib.Dec.{leb};
 ghost use lib.ListN.{length};
 ghost use lib.Seq.{slice};
@@ -17,21 +17,11 @@ pub enum Within {
     Over,
 }
 
-// Ten less, 0 at the least.
-fn ten_less(n: u64) -> u64
-    ensures { λ r. ⌜ r ≡ n - 10 ⌝ }
-{
-    if 10 < n { n - 10 } else { 0 }
-}
-
-// Whether a number with one digit more is at most the largest. Where it is more than ten below the quotient, it is, whatever the digit.
-fn is_within(n: u64, d: u64, by: u64, largest: u64, most: u64, near: u64) -> bool
-    requires { ⌜ ((most ≡ largest / by) × (near ≡ most - 10)) × ((2 ≤ by) × (d ≤ 20)) ⌝ }
+// Whether a number with one digit more is at most the largest, which divided by the base is `most`.
+fn is_within(n: u64, d: u64, by: u64, largest: u64, most: u64) -> bool
+    requires { ⌜ (most ≡ largest / by) × (2 ≤ by) ⌝ }
     ensures { λ r. ⌜ r ≡ leb (n * by + d) largest ⌝ }
 {
-    if n < near {
-        return true;
-    }
     if most < n {
         return false;
     }
@@ -44,7 +34,6 @@ pub fn number_within(digits: &[u8], base: IntegerBase, largest: u64) -> Within
 {
     let by = wide(base.value());
     let most = largest / by;
-    let near = ten_less(most);
     let mut n: u64 = 0;
     let mut i = 0;
     while i < digits.len() {
@@ -54,7 +43,7 @@ pub fn number_within(digits: &[u8], base: IntegerBase, largest: u64) -> Within
             continue;
         }
         let d = wide(parse::class_of(b));
-        if !is_within(n, d, by, largest, most, near) {
+        if !is_within(n, d, by, largest, most) {
             return Within::Over;
         }
         n = n * by + d;

@@ -1,9 +1,10 @@
--- What the value call and decoding answer, by the reading of their entry.
+-- What the value call and decoding return, by the reading of their entry.
 -- Assumes nothing.
-use mathlib.Core.Path.{_≡_, refl, sym, _∙_, subst}
+use mathlib.Core.Path.{_≡_, refl, sym, _∙_}
+use mathlib.Core.Logic.{_⊎_, inl, inr, ⊎-elim}
 use mathlib.Core.Bool.{Bool, true, false, cond}
 use mathlib.Core.List.{List, [], _∷_}
-use Prim.Native.Nat.{ℕ, _≤_}
+use Prim.Native.Nat.{ℕ, _≤_, _<_}
 use native.Mathlib.Omega.{arith}
 use borrow.Author.Tests.{le-leb}
 use types.Run.{OneOf, miss}
@@ -11,12 +12,17 @@ use denote.Enum.Declared.{tagOf}
 use lib.Dec.{eqb}
 use lib.ListN.{length}
 use lib.Seq.{slice}
-use Rattle.err.specs.Outcome.{Values, digits, Outcome, refused, accepted, none}
-use Rattle.err.specs.Reading.{outcomeOf}
+use Rattle.err.specs.Outcome.{Values, digits, decoded, Outcome, refused, accepted, none}
+use Rattle.err.specs.Numbers.{numberOf}
+use Rattle.err.specs.Reading.{placeOf, hashesOf, outcomeOf}
 use Rattle.err.specs.declared.Reading.{Reading}
 use Rattle.err.specs.declared.Reading.the-variants as reading
 use Rattle.err.proofs.Reading.{the-type}
 use Rattle.scan.proofs.Cases.{cond-eq}
+use Rattle.escape.specs.declared.Allowed.{Allowed}
+use Rattle.escape.specs.declared.Allowed.the-variants.{Text, Bytes, C}
+use Rattle.body.specs.declared.Quoted.{Quoted}
+use Rattle.body.specs.declared.Quoted.the-variants as quoted
 use Rattle.integer.specs.Integer.{baseAt, mainPart, integerRead}
 use Rattle.integer.proofs.Parts.{read-ends}
 use Rattle.integer_value.specs.Value.{number, bounded, integerValue}
@@ -25,32 +31,14 @@ use Rattle.integer_value.proofs.Values.{read-value}
 use Rattle.string.specs.String.{kindOf, stringRead, stringValue}
 use Rattle.string.specs.Decode.{stringDecoded, bufferOf, bufferAfter}
 use Rattle.string.specs.Decode as decode
-use Rattle.string.specs.declared.Kind.{Kind}
-use Rattle.string.specs.declared.Kind.the-variants.{Text, Bytes, C}
 use Rattle.input.specs.Checks.{textFault}
 use Rattle.input.proofs.Checks.{no-fault}
 use Rattle.literal.specs.Readings.{entryRead, readAt}
-use Rattle.literal.specs.Values.{checkedValue}
-use Rattle.literal.specs.Decodes.{checkedDecode, checkedBuffer, kindCoded, decodeAt, bufferAt}
+use Rattle.literal.specs.Values.{checkedValue, refusedValue}
+use Rattle.literal.specs.Decodes.{checkedDecode, checkedBuffer, kindCoded, stringIn, decodeAt, bufferAt}
 use Rattle.literal.specs.declared.KindFound.{KindFound}
 use Rattle.literal.specs.declared.KindFound.the-variants as found
 use Rattle.literal.proofs.Answers.{read-passed, read-kind}
-
--- a reading by an entry from 1 to 8 is refused, variant 0, or the variant of the entry's kind: it is none of the others
-module _ (others : List ℕ) (code : ℕ) (s : List ℕ) (l : 1 ≤ code) (z : OneOf others 0 → ⊥) (n : OneOf others code → ⊥) where
-  no-kind : {k e : ℕ} {vs : Values} → accepted k e vs ≡ readAt code s → OneOf others k → ⊥
-  no-kind h o = n (subst (OneOf others) (read-kind code s l (sym h)) o)
-
-  pub no-other : (r : Reading) → outcomeOf r ≡ readAt code s → OneOf others (tagOf the-type r) → ⊥
-  no-other (reading.Refused k p) h = z
-  no-other (reading.Bool lit) h = no-kind h
-  no-other (reading.Integer lit) h = no-kind h
-  no-other (reading.Float lit) h = no-kind h
-  no-other (reading.Char lit) h = no-kind h
-  no-other (reading.String lit) h = no-kind h
-  no-other (reading.Byte lit) h = no-kind h
-  no-other (reading.ByteString lit) h = no-kind h
-  no-other (reading.CString lit) h = no-kind h
 
 -- what is made of a reading, by the checks
 checked : {A : Type 0} (f : Outcome → A) (code : ℕ) (s : List ℕ) → code ≤ 8
@@ -64,19 +52,27 @@ checked f code s l = rw (le-leb code 8 l) (by-test (eqb (textFault s) 0))
 
 -- ---- the value call
 
--- the kinds that are no integer
+-- the variants of a reading that are no integer
 abbrev notInteger : List ℕ
-notInteger = 1 ∷ 3 ∷ 4 ∷ 5 ∷ 6 ∷ 7 ∷ 8 ∷ []
-
--- the reading of entry 2 is refused or an integer
-pub no-other-integer : (s : List ℕ) (r : Reading) → outcomeOf r ≡ readAt 2 s → OneOf notInteger (tagOf the-type r) → ⊥
-no-other-integer s = no-other notInteger 2 s (omega arith) (miss notInteger 0 tt) (miss notInteger 2 tt)
+notInteger = 0 ∷ 1 ∷ 3 ∷ 4 ∷ 5 ∷ 6 ∷ 7 ∷ 8 ∷ []
 
 module _ (most : ℕ) (s : List ℕ) where
   -- the reading's refusal comes through
   pub value-read : checkedValue most s ≡ value.ofReading (readAt 2 s) (bounded most (number (baseAt s) (mainPart s)))
   unfolding checkedValue integerValue entryRead
   value-read = checked (λ o. value.ofReading o (bounded most (number (baseAt s) (mainPart s)))) 2 s (omega arith)
+
+  -- a reading by entry 2 that is no integer is refused, and so is its value
+  pub value-refused : (r : Reading) → outcomeOf r ≡ readAt 2 s → OneOf notInteger (tagOf the-type r) → refusedValue (outcomeOf r) ≡ checkedValue most s
+  value-refused (reading.Refused k p) h o = rw (value-read, ← h) refl
+  value-refused (reading.Bool l) h o = absurd (omega (arith, read-kind 2 s (omega arith) (sym h)))
+  value-refused (reading.Integer l) h o = absurd (miss notInteger 2 tt o)
+  value-refused (reading.Float l) h o = absurd (omega (arith, read-kind 2 s (omega arith) (sym h)))
+  value-refused (reading.Char l) h o = absurd (omega (arith, read-kind 2 s (omega arith) (sym h)))
+  value-refused (reading.String l) h o = absurd (omega (arith, read-kind 2 s (omega arith) (sym h)))
+  value-refused (reading.Byte l) h o = absurd (omega (arith, read-kind 2 s (omega arith) (sym h)))
+  value-refused (reading.ByteString l) h o = absurd (omega (arith, read-kind 2 s (omega arith) (sym h)))
+  value-refused (reading.CString l) h o = absurd (omega (arith, read-kind 2 s (omega arith) (sym h)))
 
   module _ {k n base a e : ℕ} (is : readAt 2 s ≡ accepted k n (digits base a e)) where
     integer-is : integerRead s ≡ accepted k n (digits base a e)
@@ -95,7 +91,7 @@ module _ (most : ℕ) (s : List ℕ) where
 -- ---- decoding
 
 -- the code of a kind with decoded bytes is the kind's number
-kind-coded : (code : ℕ) (k : Kind) → kindCoded code ≡ found.Kind k → code ≡ kindOf k
+kind-coded : (code : ℕ) (k : Allowed) → kindCoded code ≡ found.Kind k → code ≡ kindOf k
 unfolding kindCoded
 kind-coded code k =
     cond-eq P code 5 (is Text) λ _.
@@ -105,31 +101,49 @@ kind-coded code k =
     P : KindFound → Type 0
     P f = f ≡ found.Kind k → code ≡ kindOf k
 
-    is : (j : Kind) → code ≡ kindOf j → P (found.Kind j)
+    is : (j : Allowed) → code ≡ kindOf j → P (found.Kind j)
     is j e h = let z : j ≡ k = cc in rw (← z) e
 
-kind-entry : (k : Kind) (s : List ℕ) → (1 ≤ kindOf k) × (kindOf k ≤ 8) × (entryRead (kindOf k) s ≡ stringRead k s)
+kind-entry : (k : Allowed) (s : List ℕ) → (1 ≤ kindOf k) × (kindOf k ≤ 8) × (entryRead (kindOf k) s ≡ stringRead k s)
 unfolding entryRead
 kind-entry Text s = (omega arith, omega arith, refl)
 kind-entry Bytes s = (omega arith, omega arith, refl)
 kind-entry C s = (omega arith, omega arith, refl)
 
--- the kinds without decoded bytes
-abbrev notDecoded : List ℕ
-notDecoded = 1 ∷ 2 ∷ 3 ∷ 4 ∷ 6 ∷ []
+-- it is 5, 7 or 8
+kind-number : (k : Allowed) → (5 ≤ kindOf k) × (kindOf k ≡ 6 → ⊥)
+kind-number Text = (omega arith, λ e. absurd (omega arith))
+kind-number Bytes = (omega arith, λ e. absurd (omega arith))
+kind-number C = (omega arith, λ e. absurd (omega arith))
 
-is-decoded : (k : Kind) → OneOf notDecoded (kindOf k) → ⊥
-is-decoded Text = miss notDecoded 5 tt
-is-decoded Bytes = miss notDecoded 7 tt
-is-decoded C = miss notDecoded 8 tt
+-- what a reading of a string is, by the literal or the refusal that it holds
+abbrev pub held : ℕ → Quoted → Outcome
+held k (quoted.Lit l) = accepted k (l .«start_suffix») (decoded (hashesOf (l .hashes)) (l .«value_len»))
+held k (quoted.Refused n p) = refused (numberOf n) (placeOf p)
 
-module _ (code : ℕ) (k : Kind) (s : List ℕ) (coded : kindCoded code ≡ found.Kind k) where
+module _ (code : ℕ) (k : Allowed) (s : List ℕ) (coded : kindCoded code ≡ found.Kind k) where
   own : (1 ≤ code) × (code ≤ 8) × (entryRead code s ≡ stringRead k s)
   own = rw (kind-coded code k coded) (kind-entry k s)
 
-  -- its reading is refused or of the kind
-  pub no-other-kind : (r : Reading) → outcomeOf r ≡ readAt code s → OneOf notDecoded (tagOf the-type r) → ⊥
-  no-other-kind = no-other notDecoded code s (own .0) (miss notDecoded 0 tt) (rw (kind-coded code k coded) (is-decoded k))
+  -- its reading is of the kind
+  no-other : {n e : ℕ} {vs : Values} → accepted n e vs ≡ readAt code s → (n < 5) ⊎ (n ≡ 6) → ⊥
+  no-other h o =
+      let n-is = read-kind code s (own .0) (sym h) in
+      let five = kind-number k in
+      let is = kind-coded code k coded in
+      ⊎-elim (λ l. absurd (omega (arith, five .0))) (λ six. five .1 (sym is ∙ sym n-is ∙ six)) o
+
+  -- or refused
+  pub string-held : (r : Reading) → outcomeOf r ≡ readAt code s → (n : ℕ) × (readAt code s ≡ held n (stringIn r))
+  string-held (reading.Refused k p) h = (0, sym h)
+  string-held (reading.Bool l) h = absurd (no-other h (inl (omega arith)))
+  string-held (reading.Integer l) h = absurd (no-other h (inl (omega arith)))
+  string-held (reading.Float l) h = absurd (no-other h (inl (omega arith)))
+  string-held (reading.Char l) h = absurd (no-other h (inl (omega arith)))
+  string-held (reading.String l) h = (5, sym h)
+  string-held (reading.Byte l) h = absurd (no-other h (inr refl))
+  string-held (reading.ByteString l) h = (7, sym h)
+  string-held (reading.CString l) h = (8, sym h)
 
   -- the reading's refusal comes through
   pub decode-read : (have : ℕ) → decodeAt code s have ≡ decode.ofReading (readAt code s) (stringValue k s) have

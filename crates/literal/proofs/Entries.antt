@@ -10,10 +10,10 @@ use lib.ListN.{getD}
 use Rattle.err.specs.Outcome.{Values, Outcome, accepted}
 use Rattle.scan.proofs.Cases.{cond-in, cond-eq}
 use Rattle.parse.specs.Sets.{decDigit}
+use Rattle.escape.specs.declared.Allowed.{Allowed}
+use Rattle.escape.specs.declared.Allowed.the-variants.{Text, Bytes, C}
 use Rattle.integer.proofs.Suffixed.{never}
 use Rattle.string.specs.String.{kindOf, stringRead}
-use Rattle.string.specs.declared.Kind.{Kind}
-use Rattle.string.specs.declared.Kind.the-variants.{Text, Bytes, C}
 use Rattle.entries.specs.Entries.{startsFloat}
 use Rattle.literal.specs.Readings.{numberRead, byteOrStringRead, anyBy, anyRead, entryRead}
 use Rattle.literal.proofs.KindLaws.{bool-kind, integer-kind, float-kind, char-kind, byte-kind, string-kind}
@@ -31,7 +31,7 @@ module _ (s : List ℕ) (k e : ℕ) (vs : Values) where
   abbrev Owned : Outcome → Type 0
   Owned o = o ≡ accepted k e vs → Own
 
-  own-string : (kind : Kind) → Owned (stringRead kind s)
+  own-string : (kind : Allowed) → Owned (stringRead kind s)
   unfolding entryRead
   own-string Text h = own-at 5 (omega arith) (omega arith) (string-kind Text s h) h
   own-string Bytes h = own-at 7 (omega arith) (omega arith) (string-kind Bytes s h) h
@@ -89,5 +89,5 @@ any-entry code s {k} {e} {vs} =
     (string Text) (λ h. (byte-kind s h, byte-any s h ∙ h)) (string Bytes) (string C)
     code
   where
-    string : (kind : Kind) → stringRead kind s ≡ accepted k e vs → (k ≡ kindOf kind) × (anyRead s ≡ accepted k e vs)
+    string : (kind : Allowed) → stringRead kind s ≡ accepted k e vs → (k ≡ kindOf kind) × (anyRead s ≡ accepted k e vs)
     string kind h = (string-kind kind s h, string-any kind s h ∙ h)

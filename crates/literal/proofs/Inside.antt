@@ -12,6 +12,8 @@ use Rattle.utf8.specs.Utf8.{Utf8, Boundary}
 use Rattle.utf8.proofs.Text.{ascii-next, boundary-end, boundary-le}
 use Rattle.boolean.specs.Bool.{boolRead}
 use Rattle.boolean.proofs.Laws as boolean
+use Rattle.escape.specs.declared.Allowed.{Allowed}
+use Rattle.escape.specs.declared.Allowed.the-variants.{Text, Bytes, C}
 use Rattle.integer.specs.Integer.{integerRead}
 use Rattle.integer.specs.Parts.{dec}
 use Rattle.integer.proofs.Parts as integer
@@ -19,8 +21,6 @@ use Rattle.float.specs.Float.{floatRead}
 use Rattle.float.proofs.Sound as float
 use Rattle.character.specs.Single.{charRead, byteRead}
 use Rattle.string.specs.String.{stringRead}
-use Rattle.string.specs.declared.Kind.{Kind}
-use Rattle.string.specs.declared.Kind.the-variants.{Text, Bytes, C}
 use Rattle.literal.specs.Inside.{offsets, OnBoundaries, Rising, NoLonger}
 use Rattle.literal.specs.Readings.{entryRead}
 use Rattle.literal.proofs.Quoted.{Closed, char-closed, byte-closed, string-closed}
@@ -73,7 +73,7 @@ module _ (s : List ℕ) (u : Utf8 s) {k e : ℕ} {vs : Values} where
   byte-inside : byteRead s ≡ accepted k e vs → Inside s e vs
   byte-inside h = let c = byte-closed s h in rw (c .2) ((closed-boundary s e u (c .0), tt), tt, tt)
 
-  string-inside : (kind : Kind) → stringRead kind s ≡ accepted k e vs → Inside s e vs
+  string-inside : (kind : Allowed) → stringRead kind s ≡ accepted k e vs → Inside s e vs
   string-inside kind h = let c = string-closed kind s h in rw (c .3) ((closed-boundary s e u (c .0), tt), tt, c .4)
 
   kind-inside : (code : ℕ) → 1 ≤ code → code ≤ 8 → entryRead code s ≡ accepted k e vs → Inside s e vs

@@ -6,6 +6,7 @@ use Prim.Native.Nat.{ℕ}
 use Rattle.err.specs.Outcome.{Values, accepted}
 use Rattle.boolean.specs.Bool.{boolRead}
 use Rattle.boolean.proofs.Laws as boolean
+use Rattle.escape.specs.declared.Allowed.{Allowed}
 use Rattle.integer.specs.Integer.{integerRead}
 use Rattle.integer.proofs.Parts as integer
 use Rattle.float.specs.Float.{floatRead}
@@ -13,7 +14,6 @@ use Rattle.float.proofs.Sound as float
 use Rattle.character.specs.Single.{charRead, byteRead}
 use Rattle.character.proofs.Exact.{char-sound, byte-sound}
 use Rattle.string.specs.String.{kindOf, stringRead}
-use Rattle.string.specs.declared.Kind.{Kind}
 use Rattle.string.proofs.Sound as string
 
 pub bool-kind : (s : List ℕ) {k e : ℕ} {vs : Values} → boolRead s ≡ accepted k e vs → k ≡ 1
@@ -31,5 +31,5 @@ char-kind s h = char-sound s h .1
 pub byte-kind : (s : List ℕ) {k e : ℕ} {vs : Values} → byteRead s ≡ accepted k e vs → k ≡ 6
 byte-kind s h = byte-sound s h .1
 
-pub string-kind : (k : Kind) (s : List ℕ) {kind e : ℕ} {vs : Values} → stringRead k s ≡ accepted kind e vs → kind ≡ kindOf k
+pub string-kind : (k : Allowed) (s : List ℕ) {kind e : ℕ} {vs : Values} → stringRead k s ≡ accepted kind e vs → kind ≡ kindOf k
 string-kind k s h = string.sound k s h .0

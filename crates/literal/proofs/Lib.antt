@@ -8,6 +8,4 @@ pub mod Lows
 pub mod Inside
 pub mod Refusals
 pub mod Answers
-pub mod Bools
-pub mod Early
 pub mod Calls

@@ -15,6 +15,8 @@ use Rattle.parse.specs.Sets.{decDigit}
 use Rattle.parse.proofs.Classes.{both}
 use Rattle.boolean.specs.Bool.{boolRead}
 use Rattle.boolean.proofs.Laws as boolean
+use Rattle.escape.specs.declared.Allowed.{Allowed}
+use Rattle.escape.specs.declared.Allowed.the-variants.{Text, Bytes, C}
 use Rattle.integer.specs.Integer.{integerRead}
 use Rattle.integer.proofs.Suffixed.{never}
 use Rattle.integer.proofs.Read.{read-accepted}
@@ -23,8 +25,6 @@ use Rattle.float.specs.Float.{floatRead}
 use Rattle.float.proofs.Sound as float
 use Rattle.character.specs.Single.{charRead, byteRead}
 use Rattle.string.specs.String.{openingBy, readBy, stringRead}
-use Rattle.string.specs.declared.Kind.{Kind}
-use Rattle.string.specs.declared.Kind.the-variants.{Text, Bytes, C}
 use Rattle.string.specs.declared.Opening.{Opening}
 use Rattle.string.specs.declared.Opening.the-variants as opening
 use Rattle.entries.specs.Entries.{startsFloat}
@@ -68,7 +68,7 @@ module _ {k e : ℕ} {vs : Values} where
       (λ t h. let q = both (eqb b 98) (eqb (getD s 0 0) 39) t in rw (eqb-true b 98 (q .0), eqb-true (getD s 0 0) 39 (q .1)))
       (λ t h. never h)
 
-  pub string-any : (kind : Kind) (s : List ℕ) → stringRead kind s ≡ accepted k e vs → anyRead s ≡ stringRead kind s
+  pub string-any : (kind : Allowed) (s : List ℕ) → stringRead kind s ≡ accepted k e vs → anyRead s ≡ stringRead kind s
   unfolding anyRead anyBy decDigit classOf byteOrStringRead stringRead
   string-any kind [] = never
   string-any Text (b ∷ s) =

@@ -6,6 +6,7 @@ use Prim.Native.Nat.{ℕ, _-_, _≤_, _<_}
 use native.Mathlib.Omega.{arith}
 use lib.ListN.{length, getD}
 use Rattle.err.specs.Outcome.{Values, accepted, Rawness, notRaw, raw, value, decoded}
+use Rattle.escape.specs.declared.Allowed.{Allowed}
 use Rattle.single_quote.specs.declared.Quote.{Quote}
 use Rattle.single_quote.specs.declared.Quote.the-variants.{Char, Byte}
 use Rattle.character.specs.Single.{charRead, byteRead}
@@ -13,7 +14,6 @@ use Rattle.character.specs.Parts.{Tiled}
 use Rattle.character.proofs.Exact.{char-sound, byte-sound, tiled-ascii}
 use Rattle.string.specs.String.{stringRead, stringValue}
 use Rattle.string.specs.Parts as string
-use Rattle.string.specs.declared.Kind.{Kind}
 use Rattle.string.proofs.Sound.{sound}
 use Rattle.string.proofs.Values.{ends-ascii, value-short}
 
@@ -30,7 +30,7 @@ char-closed s h = let t = char-sound s h in (quote-closed Char s (t .3), t .0, t
 pub byte-closed : (s : List ℕ) {k e : ℕ} {vs : Values} → byteRead s ≡ accepted k e vs → Closed s e × (v : ℕ) × (vs ≡ value v)
 byte-closed s h = let t = byte-sound s h in (quote-closed Byte s (t .3), t .0, t .2)
 
-pub string-closed : (k : Kind) (s : List ℕ) {kind e : ℕ} {vs : Values} → stringRead k s ≡ accepted kind e vs
+pub string-closed : (k : Allowed) (s : List ℕ) {kind e : ℕ} {vs : Values} → stringRead k s ≡ accepted kind e vs
     → Closed s e × (r : Rawness) × (n : ℕ) × (vs ≡ decoded r n) × (n ≤ length s)
 string-closed k s {kind} {e} {vs} h = let v = by-parts tiled in (ends-ascii k s (stringValue k s) tiled, v .0, v .1, v .2, v .3)
   where

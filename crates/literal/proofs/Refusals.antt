@@ -11,10 +11,10 @@ use Rattle.err.specs.Outcome.{Place, none, Outcome, refused, RefusedIn}
 use Rattle.scan.proofs.Cases.{cond-in}
 use Rattle.parse.specs.Sets.{decDigit}
 use Rattle.boolean.proofs.Laws as boolean
+use Rattle.escape.specs.declared.Allowed.the-variants.{Text, Bytes, C}
 use Rattle.integer.proofs.Refused as integer
 use Rattle.float.proofs.Refused as float
 use Rattle.character.proofs.Exact.{char-refused, byte-refused}
-use Rattle.string.specs.declared.Kind.the-variants.{Text, Bytes, C}
 use Rattle.string.proofs.Refused as string
 use Rattle.entries.specs.Entries.{startsFloat}
 use Rattle.literal.specs.Readings.{numberRead, byteOrStringRead, anyBy, anyRead, entryRead}

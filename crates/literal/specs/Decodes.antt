@@ -1,23 +1,52 @@
--- What decoding by entry code answers, and what the lent buffer holds then.
+-- What decoding by entry code returns, and what the lent buffer holds then.
 -- Assumes nothing.
 use Prim.Native.Nat.{ℕ}
 use mathlib.Core.Bool.{cond}
 use mathlib.Core.List.{List}
 use lib.Dec.{eqb}
 use Rattle.err.specs.Outcome.{none}
+use Rattle.err.specs.Numbers.{numberOf}
+use Rattle.err.specs.Reading.{placeOf}
+use Rattle.err.specs.declared.ParseErrorKind.the-variants.{InvalidLiteral}
+use Rattle.err.specs.declared.Span.the-variants.{Nowhere}
+use Rattle.err.specs.declared.Reading.{Reading}
+use Rattle.err.specs.declared.Reading.the-variants as reading
+use Rattle.body.specs.declared.Quoted.{Quoted}
+use Rattle.body.specs.declared.Quoted.the-variants as quoted
+use Rattle.escape.specs.declared.Allowed.{Allowed}
+use Rattle.escape.specs.declared.Allowed.the-variants.{Text, Bytes, C}
 use Rattle.string.specs.Decode.{Decode, withheld, stringDecoded, bufferAfter}
-use Rattle.string.specs.declared.Kind.{Kind}
-use Rattle.string.specs.declared.Kind.the-variants.{Text, Bytes, C}
 use Rattle.input.specs.Checks.{textFault}
 use Rattle.literal.specs.declared.KindFound.{KindFound}
 use Rattle.literal.specs.declared.KindFound.the-variants as found
 
 -- 43 and 44, then the reading's own refusals, then 48
-unfoldable pub checkedDecode : Kind → List ℕ → ℕ → Decode
+unfoldable pub checkedDecode : Allowed → List ℕ → ℕ → Decode
 checkedDecode k s have = cond (eqb (textFault s) 0) (stringDecoded k s have) (withheld (textFault s) none)
 
-unfoldable pub checkedBuffer : Kind → List ℕ → List ℕ → List ℕ
+unfoldable pub checkedBuffer : Allowed → List ℕ → List ℕ → List ℕ
 checkedBuffer k s buf = cond (eqb (textFault s) 0) (bufferAfter k s buf) buf
+
+-- ---- for contracts between functions, no sentence of a document
+
+-- the literal of kind 5, 7 or 8 that a reading holds, or its refusal; a reading of another kind holds none, and 3 without a span stands for it
+abbrev pub stringIn : Reading → Quoted
+stringIn (reading.Refused k p) = quoted.Refused k p
+stringIn (reading.Bool l) = quoted.Refused InvalidLiteral Nowhere
+stringIn (reading.Integer l) = quoted.Refused InvalidLiteral Nowhere
+stringIn (reading.Float l) = quoted.Refused InvalidLiteral Nowhere
+stringIn (reading.Char l) = quoted.Refused InvalidLiteral Nowhere
+stringIn (reading.String l) = quoted.Lit l
+stringIn (reading.Byte l) = quoted.Refused InvalidLiteral Nowhere
+stringIn (reading.ByteString l) = quoted.Lit l
+stringIn (reading.CString l) = quoted.Lit l
+
+-- the refusal of a refused reading; a literal has none, and 3 without a span stands for it
+abbrev pub refusedDecoding : Quoted → Decode
+refusedDecoding (quoted.Lit l) = withheld 3 none
+refusedDecoding (quoted.Refused k p) = withheld (numberOf k) (placeOf p)
+
+-- ---- by the code
 
 -- "Decoded bytes of kinds 5, 7, 8": the kind of a code
 unfoldable pub kindCoded : ℕ → KindFound

@@ -3,4 +3,3 @@ pub mod Suffixes
 pub mod Readings
 pub mod Decodes
 pub mod Inside
-pub mod Early

@@ -1,29 +1,29 @@
--- What reading by entry code answers: litrs's `parse` (src/parse.rs) for entry 0, each kind's own `parse` for entries 1 to 8.
+-- What reading by entry code returns: litrs's `parse` (src/parse.rs) for entry 0, each kind's own `parse` for entries 1 to 8.
 -- Assumes nothing.
 use Prim.Native.Nat.{ℕ}
-use mathlib.Core.Bool.{Bool, cond, _||_, _&&_}
+use mathlib.Core.Bool.{cond, _||_}
 use mathlib.Core.List.{List, [], _∷_}
 use lib.Dec.{eqb, leb}
 use lib.ListN.{getD}
 use Rattle.err.specs.Outcome.{Outcome, refused, none}
 use Rattle.parse.specs.Sets.{decDigit}
-use Rattle.boolean.specs.Bool.{isBool, boolRead}
+use Rattle.boolean.specs.Bool.{boolRead}
+use Rattle.escape.specs.declared.Allowed.{Allowed}
+use Rattle.escape.specs.declared.Allowed.the-variants.{Text, Bytes, C}
 use Rattle.integer.specs.Integer.{integerRead}
 use Rattle.float.specs.Float.{floatRead}
 use Rattle.single_quote.specs.declared.Quote.{Quote}
 use Rattle.single_quote.specs.declared.Quote.the-variants.{Char, Byte}
 use Rattle.character.specs.Single.{charRead, byteRead}
 use Rattle.string.specs.String.{stringRead}
-use Rattle.string.specs.declared.Kind.{Kind}
-use Rattle.string.specs.declared.Kind.the-variants.{Text, Bytes, C}
 use Rattle.entries.specs.Entries.{startsFloat}
 use Rattle.input.specs.Checks.{textFault}
 
--- a number: float or integer, by what stands behind its leading digits
+-- a number: float or integer, by what stands after its leading digits
 unfoldable pub numberRead : List ℕ → Outcome
 numberRead s = cond (startsFloat s) (floatRead s) (integerRead s)
 
--- behind `b`: a quote makes it a byte, `r` or a double quote a byte string; anything else is 3
+-- after `b`: a quote makes it a byte, `r` or a double quote a byte string; anything else is 3
 unfoldable pub byteOrStringRead : List ℕ → Outcome
 byteOrStringRead s =
     cond (eqb (getD s 1 0) 39) (byteRead s)
@@ -69,14 +69,10 @@ readAt code s =
 -- ---- for contracts between functions, no sentence of a document; law `chosen-read` joins `quoteIn`, `stringKindIn` and the entry chosen (entries) to the
 -- above
 
--- a bool by entry 0 or 1: nothing is wrong with such a text, so that it need not be checked (law `bool-read`)
-unfoldable pub boolAt : ℕ → List ℕ → Bool
-boolAt code s = leb code 1 && isBool s
-
 -- char or byte, by entry 4 or 6
 unfoldable pub quoteIn : ℕ → Quote
 quoteIn e = cond (eqb e 4) Char Byte
 
 -- string, byte string or C string, by entry 5, 7 or 8
-unfoldable pub stringKindIn : ℕ → Kind
+unfoldable pub stringKindIn : ℕ → Allowed
 stringKindIn e = cond (eqb e 5) Text (cond (eqb e 7) Bytes C)

@@ -1,10 +1,10 @@
--- What the value call answers: an integer's value at a type code (01, Integers).
+-- What the value call returns: an integer's value at a type code (01, Integers).
 -- Assumes nothing.
 use Prim.Native.Nat.{ℕ}
 use mathlib.Core.Bool.{cond}
 use mathlib.Core.List.{List}
 use lib.Dec.{eqb}
-use Rattle.err.specs.Outcome.{none}
+use Rattle.err.specs.Outcome.{Outcome, refused, accepted, none}
 use Rattle.integer_value.specs.Value.{Valued, withheld, integerValue}
 use Rattle.types.specs.Types.{integerCoded, largestOf}
 use Rattle.types.specs.declared.IntegerFound.{IntegerFound}
@@ -16,6 +16,11 @@ use Rattle.input.specs.Checks.{textFault}
 -- 43 and 44, which have no span, then what entry 2's reading refuses, then 45
 unfoldable pub checkedValue : ℕ → List ℕ → Valued
 checkedValue most s = cond (eqb (textFault s) 0) (integerValue most s) (withheld (textFault s) none)
+
+-- the refusal of a refused reading; an accepted one has none, and 3 without a span stands for it (for a contract between functions)
+abbrev pub refusedValue : Outcome → Valued
+refusedValue (refused n p) = withheld n p
+refusedValue (accepted k e vs) = withheld 3 none
 
 -- the largest value that a type code stands for
 abbrev pub largestIn : IntegerFound → Largest

@@ -1,14 +1,14 @@
 // The calls that a user makes, of any code and any bytes. A refusal is the first of 42, 43, 44, litrs's own, 45 or 48.
 // The last clause of each user's call's contract says that the text at exit is what it was at entry.
-use character::Told;
+use body::Quoted;
 use err::Checked;
 use err::ParseErrorKind;
 use err::Reading;
 use err::Span;
+use escape::Allowed;
 use integer_value::IntegerValue;
 use single_quote::Quote;
 use string::Decoded;
-use string::Kind;
 use types::FloatFound;
 use types::FloatType;
 use types::IntegerFound;
@@ -20,10 +20,9 @@ ghost use lib.ListN.{length};
 ghost use Rattle.integer_value.specs.Value.{valuedOf};
 ghost use Rattle.err.specs.Reading.{outcomeOf};
 ghost use Rattle.string.specs.Decode.{decodedOf};
-ghost use Rattle.literal.specs.Readings.{quoteIn, stringKindIn, entryRead, boolAt, readAt};
-ghost use Rattle.literal.specs.Early.{startsNothing, noLiteral, toldAt};
-ghost use Rattle.literal.specs.Decodes.{kindCoded, decodeAt, bufferAt};
-ghost use Rattle.literal.specs.Values.{valueAt};
+ghost use Rattle.literal.specs.Readings.{quoteIn, stringKindIn, entryRead, readAt};
+ghost use Rattle.literal.specs.Decodes.{kindCoded, stringIn, refusedDecoding, decodeAt, bufferAt};
+ghost use Rattle.literal.specs.Values.{refusedValue, valueAt};
 ghost use Rattle.literal.specs.Suffixes.{integerFromSuffix, floatFromSuffix};
 
 // The code of the integer type that a name stands for, or 0.
@@ -56,13 +55,13 @@ fn quote_of(entry: u64) -> Quote
     if entry == 4 { Quote::Char } else { Quote::Byte }
 }
 
-fn kind_of(entry: u64) -> Kind
+fn kind_of(entry: u64) -> Allowed
     ensures { λ r. ⌜ r ≡ stringKindIn entry ⌝ }
 {
     match entry {
-        5 => Kind::Text,
-        7 => Kind::Bytes,
-        _ => Kind::C,
+        5 => Allowed::Text,
+        7 => Allowed::Bytes,
+        _ => Allowed::C,
     }
 }
 
@@ -82,67 +81,6 @@ fn entry(code: u64, text: &[u8]) -> Reading
     }
 }
 
-// Whether a text is a bool and read as one. Its few bytes tell, so that it pays for no check. For `desk`, no call of a user's.
-pub fn is_bool_at(code: u64, text: &[u8]) -> bool
-    ensures { λ r. ⌜ r ≡ boolAt code (now (text .entry)) ⌝ }
-{
-    if 1 < code {
-        return false;
-    }
-    boolean::is_bool(text)
-}
-
-// Whether a byte is one from `:` to `a`: no literal starts with one of these.
-fn starts_nothing(b: u8) -> bool
-    ensures { λ r. ⌜ r ≡ startsNothing b ⌝ }
-{
-    if b < b':' {
-        return false;
-    }
-    b <= b'a'
-}
-
-// Whether a text has nine to seventeen ASCII bytes, of which the first starts no literal.
-fn is_no_literal(text: &[u8]) -> bool
-    ensures { λ r. ⌜ r ≡ noLiteral (now (text .entry)) ⌝ }
-{
-    if text.len() < 9 {
-        return false;
-    }
-    if !starts_nothing(text[0]) {
-        return false;
-    }
-    validation::is_short_ascii(&text[1..])
-}
-
-// What the bytes of a short text tell of its reading by entry 0 or 4, so that it pays for no check: of a few bytes between two quotes, and by
-// entry 0 of ASCII bytes that start as no literal does. For `desk`, no call of a user's.
-pub fn told_at(code: u64, text: &[u8]) -> Told
-    ensures { λ r. ⌜ r ≡ toldAt code (now (text .entry)) ⌝ }
-{
-    match code {
-        0 | 4 => {}
-        _ => return Told::Unknown,
-    }
-    if text.len() < 3 {
-        return Told::Unknown;
-    }
-    if text[0] == b'\'' {
-        return character::alone(text);
-    }
-    // not `is_no_literal`: most texts are told apart by their first byte
-    if !starts_nothing(text[0]) {
-        return Told::Unknown;
-    }
-    if code == 4 {
-        return Told::Unknown;
-    }
-    if validation::is_short_ascii(&text[1..]) {
-        return Told::Refused(ParseErrorKind::InvalidLiteral, Span::Nowhere);
-    }
-    Told::Unknown
-}
-
 // The reading of a text by entry code.
 pub fn read(code: u64, text: &[u8]) -> Reading
     ensures { λ r. ⌜ outcomeOf r ≡ readAt code (now (text .entry)) ⌝ }
@@ -158,6 +96,16 @@ pub fn read(code: u64, text: &[u8]) -> Reading
     err::perr_nowhere(kind)
 }
 
+// The refusal of a reading, as that of its value. An accepted reading has none; 3 stands for it, and no caller hands one in.
+fn refused_value(found: Reading) -> IntegerValue
+    ensures { λ r. ⌜ valuedOf r ≡ refusedValue (outcomeOf found) ⌝ }
+{
+    match found {
+        Reading::Refused(kind, span) => IntegerValue::Refused(kind, span),
+        _ => IntegerValue::Refused(ParseErrorKind::InvalidLiteral, Span::Nowhere),
+    }
+}
+
 // The value of an integer literal at a type code.
 pub fn value(code: u64, text: &[u8]) -> IntegerValue
     ensures { λ r. ⌜ valuedOf r ≡ valueAt code (now (text .entry)) ⌝ }
@@ -171,21 +119,16 @@ pub fn value(code: u64, text: &[u8]) -> IntegerValue
     let Largest::Value(largest) = most else {
         return IntegerValue::Refused(ParseErrorKind::BadCode, Span::Nowhere);
     };
-    if is_no_literal(text) {
-        return IntegerValue::Refused(ParseErrorKind::DoesNotStartWithDigit, Span::Between(0, 1));
-    }
     let reading = read(2, text);
-    match reading {
-        Reading::Integer(lit) => integer_value::value_of(text, lit, largest),
-        Reading::Refused(kind, span) => IntegerValue::Refused(kind, span),
-        // cannot arise: entry 2 reads integers
-        _ => IntegerValue::Refused(ParseErrorKind::InvalidLiteral, Span::Nowhere),
-    }
+    let Reading::Integer(lit) = reading else {
+        return refused_value(reading);
+    };
+    integer_value::value_of(text, lit, largest)
 }
 
 // A kind with decoded bytes, or that a code is none.
 pub enum KindFound {
-    Kind(Kind),
+    Kind(Allowed),
     Nothing,
 }
 
@@ -193,10 +136,34 @@ fn kind_from_code(code: u64) -> KindFound
     ensures { λ r. ⌜ r ≡ kindCoded code ⌝ }
 {
     match code {
-        5 => KindFound::Kind(Kind::Text),
-        7 => KindFound::Kind(Kind::Bytes),
-        8 => KindFound::Kind(Kind::C),
+        5 => KindFound::Kind(Allowed::Text),
+        7 => KindFound::Kind(Allowed::Bytes),
+        8 => KindFound::Kind(Allowed::C),
         _ => KindFound::Nothing,
+    }
+}
+
+// The string, byte string or C string that a reading holds, or its refusal. A reading of another kind holds none; 3 stands for it, and no caller
+// hands one in.
+fn string_in(found: Reading) -> Quoted
+    ensures { λ r. ⌜ r ≡ stringIn found ⌝ }
+{
+    match found {
+        Reading::String(lit) => Quoted::Lit(lit),
+        Reading::ByteString(lit) => Quoted::Lit(lit),
+        Reading::CString(lit) => Quoted::Lit(lit),
+        Reading::Refused(kind, span) => Quoted::Refused(kind, span),
+        _ => Quoted::Refused(ParseErrorKind::InvalidLiteral, Span::Nowhere),
+    }
+}
+
+// The refusal of a reading, as that of its decoding. A literal has none; 3 stands for it, and no caller hands one in.
+fn refused_decoding(found: Quoted) -> Decoded
+    ensures { λ r. ⌜ decodedOf r ≡ refusedDecoding found ⌝ }
+{
+    match found {
+        Quoted::Lit(_) => Decoded::Refused(ParseErrorKind::InvalidLiteral, Span::Nowhere),
+        Quoted::Refused(kind, span) => Decoded::Refused(kind, span),
     }
 }
 
@@ -210,13 +177,9 @@ pub fn decode(code: u64, text: &[u8], out: &mut [u8]) -> Decoded
     let KindFound::Kind(kind) = found else {
         return Decoded::Refused(ParseErrorKind::BadCode, Span::Nowhere);
     };
-    let reading = read(code, text);
-    match reading {
-        Reading::String(lit) => string::decode(text, kind, lit, out),
-        Reading::ByteString(lit) => string::decode(text, kind, lit, out),
-        Reading::CString(lit) => string::decode(text, kind, lit, out),
-        Reading::Refused(fault, span) => Decoded::Refused(fault, span),
-        // cannot arise: these entries read strings
-        _ => Decoded::Refused(ParseErrorKind::InvalidLiteral, Span::Nowhere),
-    }
+    let reading = string_in(read(code, text));
+    let Quoted::Lit(lit) = reading else {
+        return refused_decoding(reading);
+    };
+    string::decode(text, kind, lit, out)
 }

@@ -1,4 +1,4 @@
-// Answers in numbers, as they go out to C: a refusal's code, and what a reading holds.
+// Results in numbers, as they go out to C: a refusal's code, and what a reading holds.
 use err::FloatLit;
 use err::Hashes;
 use err::IntegerLit;
@@ -55,7 +55,7 @@ pub fn suffix_start(found: Reading) -> usize
 }
 
 // A refusal in five numbers: 0, its number and its span.
-pub fn span_numbers(number: u64, span: Span) -> [u64; 5]
+fn span_numbers(number: u64, span: Span) -> [u64; 5]
     ensures { λ r. ⌜ r ≡ 0 ∷ number ∷ placeNumbers (placeOf span) ⌝ }
 {
     match span {
@@ -65,7 +65,7 @@ pub fn span_numbers(number: u64, span: Span) -> [u64; 5]
 }
 
 // A literal of kind 5, 7 or 8 in five numbers.
-pub fn string_numbers(kind: u64, lit: StringLit) -> [u64; 5]
+fn string_numbers(kind: u64, lit: StringLit) -> [u64; 5]
     ensures { λ r. ⌜ r ≡ stringNumbers kind lit ⌝ }
 {
     let hashes = lit.hashes;
@@ -78,14 +78,14 @@ pub fn string_numbers(kind: u64, lit: StringLit) -> [u64; 5]
 }
 
 // 1 or 0.
-pub fn truth(value: bool) -> u64
+fn truth(value: bool) -> u64
     ensures { λ r. ⌜ r ≡ truthNumber value ⌝ }
 {
     if value { 1 } else { 0 }
 }
 
 // An integer in five numbers.
-pub fn integer_numbers(lit: IntegerLit) -> [u64; 5]
+fn integer_numbers(lit: IntegerLit) -> [u64; 5]
     ensures { λ r. ⌜ r ≡ readingNumbers (outcomeOf (Reading.Integer lit)) ⌝ }
 {
     let base = lit.base;
@@ -94,7 +94,7 @@ pub fn integer_numbers(lit: IntegerLit) -> [u64; 5]
 }
 
 // A float in five numbers.
-pub fn float_numbers(lit: FloatLit) -> [u64; 5]
+fn float_numbers(lit: FloatLit) -> [u64; 5]
     ensures { λ r. ⌜ r ≡ readingNumbers (outcomeOf (Reading.Float lit)) ⌝ }
 {
     let end = lit.end_number_part as u64;
@@ -105,4 +105,21 @@ pub fn float_numbers(lit: FloatLit) -> [u64; 5]
         lit.end_fractional_part as u64,
         end,
     ]
+}
+
+// A reading in five numbers: kind, start of suffix and values; or 0, the refusal number and the span.
+pub fn reading_numbers(found: Reading) -> [u64; 5]
+    ensures { λ r. ⌜ r ≡ readingNumbers (outcomeOf found) ⌝ }
+{
+    match found {
+        Reading::Refused(kind, span) => span_numbers(err::number(kind) as u64, span),
+        Reading::Bool(l) => [1, l.end as u64, truth(l.value), 0, 0],
+        Reading::Integer(l) => integer_numbers(l),
+        Reading::Float(l) => float_numbers(l),
+        Reading::Char(l) => [4, l.start_suffix as u64, l.value as u64, 0, 0],
+        Reading::String(l) => string_numbers(5, l),
+        Reading::Byte(l) => [6, l.start_suffix as u64, l.value as u64, 0, 0],
+        Reading::ByteString(l) => string_numbers(7, l),
+        Reading::CString(l) => string_numbers(8, l),
+    }
 }

@@ -75,10 +75,6 @@ pub class-lower-hex : (b : ℕ) → 97 ≤ b → b ≤ 102 → classOf b ≡ b -
 unfolding classOf
 class-lower-hex b h g = class-from (λ b. b - 87) 97 6 tt b h (omega arith)
 
-pub class-most : (b : ℕ) → classOf b ≤ 20
-unfolding classOf
-class-most b = leb-true (classOf b) 20 (everywhere (λ b. leb (classOf b) 20) (λ b. true) tt (λ b h. rw (class-above b h)) b)
-
 -- a test of a byte by a set is a test of its class
 pub set-class : (set : ClassSet) (b : ℕ) → inSet set b ≡ inClass set (classOf b)
 unfolding digit suffixRest blank

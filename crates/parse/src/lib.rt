@@ -1,9 +1,7 @@
 // The class of each byte, and the scans by class.
 ghost use mathlib.Core.Path.{_≡_};
 ghost use Prim.Native.Nat.{_<_};
-ghost use lib.Dec.{leb};
 ghost use Rattle.scan.specs.Run.{run};
-ghost use Rattle.scan.specs.Sets.{only};
 ghost use Rattle.parse.specs.Class.{classOf, Classes};
 ghost use Rattle.parse.specs.Sets.{blank, decDigit, inSet, inClass, hexDigitOf, startsE};
 
@@ -362,25 +360,6 @@ pub fn run_len(s: &[u8], set: ClassSet) -> usize
         i += 1;
     }
     i
-}
-
-// Whether four spaces stand at the front, the most usual indent.
-pub fn is_indented(s: &[u8]) -> bool
-    ensures { λ r. ⌜ r ≡ leb 4 (run (only 32) (now (s .entry))) ⌝ }
-{
-    if s.len() < 4 {
-        return false;
-    }
-    if s[0] != b' ' {
-        return false;
-    }
-    if s[1] != b' ' {
-        return false;
-    }
-    if s[2] != b' ' {
-        return false;
-    }
-    s[3] == b' '
 }
 
 // How many spaces, tabs and LFs stand at the front.

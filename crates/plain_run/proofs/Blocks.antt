@@ -1,12 +1,12 @@
 -- The run of a test in a block, by the least place that fails it, and a run that is passed part by part. For any test.
 -- Assumes nothing.
-use mathlib.Core.Path.{_≡_, refl, ap, _∙_}
+use mathlib.Core.Path.{_≡_, refl}
 use mathlib.Core.Bool.{Bool, true, false, cond}
-use mathlib.Core.List.{List, [], _∷_, _++_}
+use mathlib.Core.List.{List, [], _∷_}
 use Prim.Native.Nat.{ℕ, zero, suc, _+_, _-_, _≤_, _<_, min}
 use native.Mathlib.Omega.{arith}
-use lib.ListN.{length, getD, take, drop, length-take}
-use lib.Seq.{drop-drop, take-add}
+use lib.ListN.{length, getD, take, drop}
+use lib.Seq.{drop-drop}
 use Rattle.scan.specs.Run.{run}
 use Rattle.scan.proofs.Runs.{run-le, run-more, run-stop, run-end, run-past}
 
@@ -34,7 +34,7 @@ module _ (p : ℕ → Bool) (s : List ℕ) (n : ℕ) (size : length s ≡ n) whe
           let r = run-stop p s j (omega arith) g in
           record { within = omega arith; small = omega (arith, l .small); is = omega (arith, l .is) }
 
-  -- THE LAW: behind the last byte it is the run.
+  -- THE LAW: after the last byte it is the run.
   pub least-end : (m j : ℕ) → Least p s n m j → n ≤ j → m ≡ run p s
   least-end m j l h = omega (arith, l .is, l .small, l .within, run-end p s j (omega arith))
 
@@ -56,33 +56,14 @@ module _ (p : ℕ → Bool) (s : List ℕ) (i n m : ℕ) (is : m ≡ run p (take
   pub block-stop : m < n → i + m ≡ i + run p (drop i s)
   block-stop h = omega (arith, run-take p (i + n - i) (drop i s))
 
-  -- or goes on behind it
+  -- or goes on after it
   pub block-past : n ≤ m → i + run p (drop i s) ≡ i + n + run p (drop (i + n) s)
   block-past h = rw (← drop-drop) (omega (arith, run-past p n (drop i s) (omega (arith, run-take p (i + n - i) (drop i s)))))
 
 -- ---- at most n bytes of the run at i
 
--- the run goes on behind them
+-- the run goes on after them
 pub run-rest : (p : ℕ → Bool) (s : List ℕ) (i n e : ℕ) → e ≡ i + min n (run p (drop i s)) → e + run p (drop e s) ≡ i + run p (drop i s)
 run-rest p s i n e h =
     let m = min n (run p (drop i s)) in
     rw (h, ← drop-drop) (omega (arith, run-past p m (drop i s) (omega arith)))
-
--- m of them are copied
-module _ (p : ℕ → Bool) (s : List ℕ) (i n m : ℕ) (is : m ≡ length (take (min n (run p (drop i s))) (drop i s))) where
-  pub few-count : m ≡ min n (run p (drop i s))
-  few-count = is ∙ length-take (min n (run p (drop i s))) (drop i s) ∙ omega (arith, run-le p (drop i s))
-
-  -- they are the run
-  pub few-all : m < n → take (min n (run p (drop i s))) (drop i s) ≡ take (run p (drop i s)) (drop i s)
-  few-all h =
-      let e : min n (run p (drop i s)) ≡ run p (drop i s) = omega (arith, few-count) in
-      ap (λ (x : ℕ). take x (drop i s)) e
-
-  -- or the rest of it stands behind them
-  pub few-rest : (e : ℕ) → e ≡ i + m + run p (drop (i + m) s)
-      → take (min n (run p (drop i s))) (drop i s) ++ take (e - (i + m)) (drop (i + m) s) ≡ take (run p (drop i s)) (drop i s)
-  few-rest e h =
-      let r = run-rest p s i n (i + m) (ap (λ (x : ℕ). i + x) few-count) in
-      let whole : run p (drop i s) ≡ m + (e - (i + m)) = omega arith in
-      rw (← few-count, whole, take-add m (e - (i + m)) (drop i s), drop-drop)

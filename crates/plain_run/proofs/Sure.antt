@@ -51,7 +51,7 @@ module _ (k : Allowed) (s : List ℕ) (at : ℕ) where
       by-kind false true x y e = sure-plain k _ (all-each sureByte s at 8 i e h) (λ z. all-each ascii s at 8 i y h)
       by-kind false false x y e = clash e refl
 
-  -- so that the run goes on behind them
+  -- so that the run goes on after them
   pub eight-passed : at + 8 ≤ length s → at ≤ run (plainByte k) s → passIn k at s ≡ true → at + 8 ≤ run (plainByte k) s
   eight-passed l h e = go 8 (omega arith)
     where

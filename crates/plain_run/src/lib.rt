@@ -10,7 +10,7 @@ ghost use Rattle.plain_run.specs.Plain.{plainByte};
 ghost use Rattle.plain_run.specs.Sure.{sureByte, passIn};
 
 // Whether a byte stands for itself.
-pub fn is_plain(b: u8, k: Allowed) -> bool
+fn is_plain(b: u8, k: Allowed) -> bool
     ensures { λ r. ⌜ r ≡ plainByte k b ⌝ }
 {
     if b'"' < b {
@@ -69,7 +69,7 @@ fn byte_run(s: &[u8], from: usize, stop: usize, k: Allowed) -> usize
 }
 
 // Where the run ends, by blocks while there are 64 bytes.
-pub fn block_end(s: &[u8], from: usize, k: Allowed) -> usize
+fn block_end(s: &[u8], from: usize, k: Allowed) -> usize
     requires { ⌜ from ≤ length (now s) ⌝ }
     ensures { λ r. ⌜ r ≡ from + run (plainByte k) (drop from (now (s .entry))) ⌝ }
 {
@@ -85,7 +85,7 @@ pub fn block_end(s: &[u8], from: usize, k: Allowed) -> usize
     byte_run(s, i, s.len(), k)
 }
 
-// The same, where a short run pays for no block.
+// Where the run at an offset ends. A short one pays for no block.
 pub fn plain_end(s: &[u8], from: usize, k: Allowed) -> usize
     requires { ⌜ from ≤ length (now s) ⌝ }
     ensures { λ r. ⌜ r ≡ from + run (plainByte k) (drop from (now (s .entry))) ⌝ }
@@ -97,27 +97,6 @@ pub fn plain_end(s: &[u8], from: usize, k: Allowed) -> usize
     }
     // not `block_end(s, i, k)`: a slice that is handed on whole has to live in memory
     i + block_end(&s[i..], 0, k)
-}
-
-// The same, where a run of one byte pays for no call.
-pub fn run_end(s: &[u8], from: usize, k: Allowed) -> usize
-    requires { ⌜ from ≤ length (now s) ⌝ }
-    ensures { λ r. ⌜ r ≡ from + run (plainByte k) (drop from (now (s .entry))) ⌝ }
-{
-    if s.len() <= from {
-        return from;
-    }
-    if !is_plain(s[from], k) {
-        return from;
-    }
-    let next = from + 1;
-    if s.len() <= next {
-        return next;
-    }
-    if !is_plain(s[next], k) {
-        return next;
-    }
-    plain_end(s, next, k)
 }
 
 // Whether a byte stands for itself in every kind of body, but for those above 127. Zero bytes, which some kinds allow, are left to the loop
@@ -136,7 +115,7 @@ fn sure_two(s: &[u8], at: usize) -> bool
     is_sure(s[at]) & is_sure(s[at + 1])
 }
 
-// The same of eight bytes.
+// Whether the eight bytes at an offset do.
 fn sure_eight(s: &[u8], at: usize) -> bool
     requires { ⌜ at + 8 ≤ length (now s) ⌝ }
     ensures { λ r. ⌜ r ≡ allIn sureByte at 8 (now (s .entry)) ⌝ }
@@ -144,7 +123,7 @@ fn sure_eight(s: &[u8], at: usize) -> bool
     sure_two(s, at) & sure_two(s, at + 2) & (sure_two(s, at + 4) & sure_two(s, at + 6))
 }
 
-// Whether the eight bytes at an offset surely stand for themselves; in a kind without characters above 127 they are ASCII, too.
+// Whether the eight bytes at an offset surely stand for themselves in a kind of body: without characters above 127 they are ASCII, too.
 fn pass_eight(s: &[u8], at: usize, k: Allowed) -> bool
     requires { ⌜ at + 8 ≤ length (now s) ⌝ }
     ensures { λ r. ⌜ r ≡ passIn k at (now (s .entry)) ⌝ }

@@ -1,4 +1,4 @@
--- The forms of a style: by the tests of the code, one behind the other, how long they are, and that they are those of crate form.
+-- The forms of a style: by the tests of the code, one after another, how long they are, and that they are those of crate form.
 -- Assumes nothing.
 use mathlib.Core.Path.{_≡_, refl, sym, ap, _∙_}
 use mathlib.Core.Bool.{Bool, true, false, _&&_}
@@ -60,7 +60,7 @@ module _ (w : Bool) (q : ℕ) where
       (simp (le-leb 32 b h, lt-ltb b 127 l)))
       (λ l. cond-eq P b 127 (λ e t. clash t refl) (λ o t. is-high b (omega arith) ∙ rw t)))))
 
-  -- ---- all of them, one behind the other
+  -- ---- all of them, one after another
 
   pub forms-append : (u v : List ℕ) → styledForms w q (u ++ v) ≡ styledForms w q u ++ styledForms w q v
   forms-append [] v = refl
@@ -110,7 +110,7 @@ module _ (w : Bool) (q : ℕ) where
       (λ f. cond-in P (leb 32 b && ltb b 127) {x = b ∷ []} {y = xForm b} (λ g. omega arith) (λ g. x)) (λ f. omega arith))
       (λ e. cond-in P w (λ f. omega arith) (λ f. x))
 
-  -- the answer of a measurer
+  -- what a measurer returns
   pub measured : (b n : ℕ) → n ≡ length (styledForm w q b) → (n ≡ length (styledForm w q b)) × (n ≤ 4)
   measured b n e = (e, omega (arith, e, form-short b))
 

@@ -12,7 +12,7 @@ pub struct Style {
     pub wide: bool,
 }
 
-// What stands behind the backslash of an escape of two bytes, or 0.
+// What stands after the backslash of an escape of two bytes, or 0.
 fn letter(b: u8, quote: u8) -> u8
     ensures { λ r. ⌜ r ≡ letterFor quote b ⌝ }
 {

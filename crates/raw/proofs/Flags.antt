@@ -1,12 +1,11 @@
--- The flags of a list, part by part, the run of a scan from an offset, and of one with no hashes.
+-- The flags of a list, part by part, and the run of a scan from an offset.
 -- Assumes nothing.
 use mathlib.Core.Path.{_≡_, refl, ap, sym, _∙_}
-use mathlib.Core.Bool.{Bool, true, false, cond, not, _&&_}
+use mathlib.Core.Bool.{Bool, true, false, cond}
 use mathlib.Core.List.{List, [], _∷_}
 use Prim.Native.Nat.{ℕ, zero, suc, _+_, _-_, _≤_, _<_}
 use native.Mathlib.Nat.{add-comm}
 use native.Mathlib.Omega.{arith}
-use lib.Dec.{eqb}
 use lib.ListN.{length, getD, take, drop, length-drop}
 use lib.Seq.{take-nil, drop-nil, drop-drop, getD-drop}
 use Rattle.scan.specs.Run.{run}
@@ -14,7 +13,7 @@ use Rattle.scan.specs.Sets.{only}
 use Rattle.scan.proofs.Runs as runs
 use Rattle.escape.specs.declared.Allowed.{Allowed}
 use Rattle.plain_run.proofs.Blocks as blocks
-use Rattle.raw.specs.Scan.{rawPlain, beforeQuote, markOf, passes, flags, rawRun}
+use Rattle.raw.specs.Scan.{passes, flags, rawRun}
 
 -- a flag is 1 where its test is true
 flag : (t : Bool) → only 1 (cond t 1 0) ≡ t
@@ -92,7 +91,7 @@ module _ (k : Allowed) (h m : ℕ) (s : List ℕ) where
     pub scan-stop : passes k m (getD s i 0) (getD s (i + h) 0) ≡ false → i + rawRun k h m (drop i s) ≡ i
     scan-stop t = omega (arith, rest i, runs.run-stop (only 1) all i size (seen ∙ t))
 
-  -- r is the run in the block of n bytes at i, with the n bytes that stand h behind it
+  -- r is the run in the block of n bytes at i, with the n bytes that stand h bytes after it
   module _ (i n r : ℕ) (is : r ≡ run (only 1) (flags k m (take (i + n - i) (drop i s)) (take (i + n + h - (i + h)) (drop (i + h) s)))) where
     block : r ≡ run (only 1) (take (i + n - i) (drop i all))
     block =
@@ -107,25 +106,6 @@ module _ (k : Allowed) (h m : ℕ) (s : List ℕ) where
     pub scan-here : r < n → i + r ≡ i + rawRun k h m (drop i s)
     scan-here g = omega (arith, rest i, blocks.block-stop (only 1) all i n r block g)
 
-    -- or goes on behind it
+    -- or goes on after it
     pub scan-behind : n ≤ r → i + rawRun k h m (drop i s) ≡ i + n + rawRun k h m (drop (i + n) s)
     scan-behind g = omega (arith, rest i, rest (i + n), blocks.block-past (only 1) all i n r block g)
-
--- ---- a scan with no hashes
-
--- the mark is the quote itself, so that a byte passes where it may stand before the first quote
-before : (k : Allowed) (b : ℕ) → passes k 34 b b ≡ beforeQuote k b
-unfolding passes beforeQuote
-before k b = go (rawPlain k b) (eqb b 34)
-  where
-    go : (t p : Bool) → cond t (not (p && p)) false ≡ cond p false t
-    go true true = refl
-    go true false = refl
-    go false true = refl
-    go false false = refl
-
--- the scan passes what may stand there
-pub scan-quote : (k : Allowed) (s : List ℕ) → rawRun k 0 (markOf 0) s ≡ run (beforeQuote k) s
-unfolding markOf
-scan-quote k [] = refl
-scan-quote k (b ∷ s) = rw (flag (passes k 34 b b), before k b, scan-quote k s)

@@ -41,7 +41,7 @@ backslash-plain : (k : Allowed) → rawPlain k 92 ≡ true
 unfolding rawPlain
 backslash-plain k = refl
 
--- a byte that passes is plain, and a quote has another byte than the mark h behind it
+-- a byte that passes is plain, and a quote has another byte than the mark h bytes after it
 passes-plain : (k : Allowed) (m b far : ℕ) → passes k m b far ≡ true → rawPlain k b ≡ true
 unfolding passes
 passes-plain k m b far = go (rawPlain k b)
@@ -91,7 +91,7 @@ not-both k m b far = go (rawPlain k b) (eqb b 34) (eqb far m)
 
 -- ---- a quote that closes
 
--- where h hashes stand behind a quote, the mark stands h bytes behind it
+-- where h hashes stand after a quote, the mark stands h bytes after it
 marked : (h : ℕ) (s : List ℕ) (i : ℕ) → getD s i 0 ≡ 34 → h ≤ run (only 35) (drop (i + 1) s) → getD s (i + h) 0 ≡ markOf h
 unfolding markOf only
 marked zero s i e g = ap (λ (n : ℕ). getD s n 0) (add-zero i) ∙ e
@@ -164,7 +164,7 @@ module _ (k : Allowed) (h : ℕ) (s : List ℕ) where
       let there : i + rawRun k h (markOf h) (drop i s) ≡ e = omega arith in
       rw there at (passed-by (rawRun k h (markOf h) (drop i s)) i (omega arith) q)
 
-  -- and is measured there, where a quote stands with h hashes behind it
+  -- and is measured there, where a quote stands with h hashes after it
   pub scan-closes : (i e : ℕ) → e ≡ i + rawRun k h (markOf h) (drop i s) → At i → e < length s → getD s e 0 ≡ 34 → h ≤ run (only 35) (drop (e + 1) s)
       → (m : Measured) → m .at ≡ e → m .len ≡ e → endOf (m .end) ≡ close → Measures (rawBody k h s) m
   scan-closes i e g q l quote hashes =

@@ -15,19 +15,15 @@ use Rattle.escape.specs.declared.Allowed.{Allowed}
 unfoldable pub rawPlain : Allowed → ℕ → Bool
 rawPlain k b = cond (eqb b 13) false (cond (eqb b 0) (allowNul k) (cond (ltb 127 b) (unicode k) true))
 
--- a byte that may stand before the first quote of a raw body: one that it may hold, and no quote
-unfoldable pub beforeQuote : Allowed → ℕ → Bool
-beforeQuote k b = cond (eqb b 34) false (rawPlain k b)
-
--- what stands h bytes behind a quote that closes: with no hashes the quote itself, else the last hash
+-- what stands h bytes after a quote that closes: with no hashes the quote itself, else the last hash
 unfoldable pub markOf : ℕ → ℕ
 markOf h = cond (eqb h 0) 34 35
 
--- a byte b is passed over, unless it is a quote and the byte `far`, h bytes behind it, is the mark m
+-- a byte b is passed over, unless it is a quote and the byte `far`, h bytes after it, is the mark m
 unfoldable pub passes : Allowed → ℕ → ℕ → ℕ → Bool
 passes k m b far = cond (rawPlain k b) (not (eqb b 34 && eqb far m)) false
 
--- byte by byte 1 where it is passed over and else 0; t starts h bytes behind s
+-- byte by byte 1 where it is passed over and else 0; t starts h bytes after s
 abbrev pub flags : Allowed → ℕ → List ℕ → List ℕ → List ℕ
 flags k m [] t = []
 flags k m (b ∷ s) t = cond (passes k m b (getD t 0 0)) 1 0 ∷ flags k m s (drop 1 t)

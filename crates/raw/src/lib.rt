@@ -16,13 +16,11 @@ ghost use lib.Dec.{leb};
 ghost use lib.ListN.{length, getD, drop};
 ghost use Rattle.scan.specs.Run.{run};
 ghost use Rattle.scan.specs.Sets.{only};
-ghost use Rattle.scan.specs.Windows.{allIn};
-ghost use Rattle.escape.specs.Allows.{unicode, allowNul};
 ghost use Rattle.body.specs.Code.{Stopped};
 ghost use Rattle.body.specs.Step.{stop, endOf, nextOf, rawStepOf};
 ghost use Rattle.body.specs.Body.{rawBody, Measures};
 ghost use Rattle.body.specs.Quote.{quoteOf, rawOf};
-ghost use Rattle.raw.specs.Scan.{rawPlain, beforeQuote, markOf, passes, flags, rawRun};
+ghost use Rattle.raw.specs.Scan.{rawPlain, markOf, passes, flags, rawRun};
 
 // What stands at i of a raw body with h hashes.
 fn raw_step(s: &[u8], i: usize, h: usize, k: Allowed) -> Step
@@ -73,7 +71,7 @@ fn raw_ending_at(s: &[u8], at: usize, h: usize, k: Allowed) -> Ending
     why
 }
 
-// What stands h bytes behind a quote that closes.
+// What stands h bytes after a quote that closes.
 fn closing_mark(h: usize) -> u8
     ensures { λ r. ⌜ r ≡ markOf h ⌝ }
 {
@@ -99,7 +97,7 @@ fn is_raw_plain(b: u8, k: Allowed) -> bool
     true
 }
 
-// Whether the byte at i is passed over: a quote is, where h bytes behind it the mark does not stand.
+// Whether the byte at i is passed over: a quote is, where h bytes after it the mark does not stand.
 fn passes_at(s: &[u8], i: usize, h: usize, mark: u8, k: Allowed) -> bool
     requires { ⌜ (i < length (now s)) × (h ≤ 255) ⌝ }
     ensures { λ r. ⌜ r ≡ passes k mark (getD (now (s .entry)) i 0) (getD (now (s .entry)) (i + h) 0) ⌝ }
@@ -140,7 +138,7 @@ fn raw_place(b: u8, far: u8, j: u8, mark: u8, k: Allowed) -> u8
     if is_raw_plain(b, k) { 64 } else { j }
 }
 
-// Where the bytes end that are passed over, in 64 bytes; `far` are the bytes h behind them.
+// Where the bytes end that are passed over, in 64 bytes; `far` are those h bytes after them.
 fn raw_block_run(s: &[u8], far: &[u8], mark: u8, k: Allowed) -> u8
     requires { ⌜ (length (now s) ≡ 64) × (length (now far) ≡ 64) ⌝ }
     ensures { λ r. ⌜ r ≡ run (only 1) (flags k mark (now (s .entry)) (now (far .entry))) ⌝ }
@@ -154,7 +152,7 @@ fn raw_block_run(s: &[u8], far: &[u8], mark: u8, k: Allowed) -> u8
     m
 }
 
-// Where the bytes end that are passed over, by blocks while there are 64 bytes and h behind them.
+// Where the bytes end that are passed over, by blocks while there are 64 bytes and h bytes after them.
 fn raw_end(s: &[u8], from: usize, h: usize, mark: u8, k: Allowed) -> usize
     requires { ⌜ (from ≤ length (now s)) × (h ≤ 255) ⌝ }
     ensures { λ r. ⌜ r ≡ from + rawRun k h mark (drop from (now (s .entry))) ⌝ }
@@ -173,95 +171,9 @@ fn raw_end(s: &[u8], from: usize, h: usize, mark: u8, k: Allowed) -> usize
     scan_from(s, i, h, mark, k)
 }
 
-// Whether a byte may stand before the first quote of a raw body.
-fn is_before_quote(b: u8, k: Allowed) -> bool
-    ensures { λ r. ⌜ r ≡ beforeQuote k b ⌝ }
-{
-    if b == b'"' {
-        return false;
-    }
-    is_raw_plain(b, k)
-}
-
-// Where the bytes before the first quote end, byte by byte.
-fn run_before_quote(s: &[u8], from: usize, k: Allowed) -> usize
-    requires { ⌜ from ≤ length (now s) ⌝ }
-    ensures { λ r. ⌜ r ≡ from + run (beforeQuote k) (drop from (now (s .entry))) ⌝ }
-{
-    let mut i = from;
-    while i < s.len() {
-        if !is_before_quote(s[i], k) {
-            return i;
-        }
-        i += 1;
-    }
-    i
-}
-
-// The lowest byte that may stand for itself.
-fn lowest_plain(k: Allowed) -> u8
-    ensures { λ r. ⌜ r ≡ cond (allowNul k) 0 1 ⌝ }
-{
-    if k.allow_nul() { 0 } else { 1 }
-}
-
-// The highest byte that may stand for itself.
-fn highest_plain(k: Allowed) -> u8
-    ensures { λ r. ⌜ r ≡ cond (unicode k) 255 127 ⌝ }
-{
-    if k.unicode() { 255 } else { 127 }
-}
-
-// Whether a byte may stand before the first quote, with every test made in any case (as `is_before_quote`).
-fn may_stand(b: u8, k: Allowed) -> bool
-    ensures { λ r. ⌜ r ≡ beforeQuote k b ⌝ }
-{
-    (b != b'"') & (b != b'\r') & (lowest_plain(k) <= b) & (b <= highest_plain(k))
-}
-
-// Whether the two bytes at an offset may.
-fn stand_two(s: &[u8], at: usize, k: Allowed) -> bool
-    requires { ⌜ at + 2 ≤ length (now s) ⌝ }
-    ensures { λ r. ⌜ r ≡ allIn (beforeQuote k) at 2 (now (s .entry)) ⌝ }
-{
-    may_stand(s[at], k) & may_stand(s[at + 1], k)
-}
-
-// The same of eight bytes.
-fn stand_eight(s: &[u8], at: usize, k: Allowed) -> bool
-    requires { ⌜ at + 8 ≤ length (now s) ⌝ }
-    ensures { λ r. ⌜ r ≡ allIn (beforeQuote k) at 8 (now (s .entry)) ⌝ }
-{
-    stand_two(s, at, k)
-        & stand_two(s, at + 2, k)
-        & (stand_two(s, at + 4, k) & stand_two(s, at + 6, k))
-}
-
-// Where the bytes before the first quote end, by eight at once up to the last byte, which most often is the quote.
-fn quote_end(s: &[u8], k: Allowed) -> usize
-    ensures { λ r. ⌜ r ≡ run (beforeQuote k) (now (s .entry)) ⌝ }
-{
-    if s.len() < 9 {
-        return run_before_quote(s, 0, k);
-    }
-    let n = s.len() - 1;
-    let last = n - 8;
-    let mut at = 0;
-    while stand_eight(s, at, k) {
-        if at == last {
-            if s[n] == b'"' {
-                return n;
-            }
-            return run_before_quote(s, n, k);
-        }
-        at = scan::nearer(at, 8, last);
-    }
-    run_before_quote(s, at, k)
-}
-
-// The body of a raw string with h hashes, which are counted at the quotes alone that have the mark behind them. It stands for its own
+// The body of a raw string with h hashes, which are counted at the quotes alone that have the mark after them. It stands for its own
 // bytes, so that its length is where it ends.
-fn scan_body(s: &[u8], h: usize, k: Allowed) -> Measured
+fn measure_raw(s: &[u8], h: usize, k: Allowed) -> Measured
     requires { ⌜ h ≤ 255 ⌝ }
     ensures { λ r. ⌜ Measures (rawBody k h (now (s .entry))) r ⌝ }
 {
@@ -288,27 +200,7 @@ fn scan_body(s: &[u8], h: usize, k: Allowed) -> Measured
     }
 }
 
-// The same. A short body without hashes is scanned for its first quote by eight bytes at once.
-fn measure_raw(s: &[u8], h: usize, k: Allowed) -> Measured
-    requires { ⌜ h ≤ 255 ⌝ }
-    ensures { λ r. ⌜ Measures (rawBody k h (now (s .entry))) r ⌝ }
-{
-    if s.len() < 66 {
-        if h == 0 {
-            let e = quote_end(s, k);
-            if scan::byte_at(s, e) == b'"' {
-                return Measured {
-                    at: e,
-                    len: e,
-                    end: Ending::Close,
-                };
-            }
-        }
-    }
-    scan_body(s, h, k)
-}
-
-// A text whose hashes start at an offset, behind the `r`.
+// A text whose hashes start at an offset, after the `r`.
 pub fn scan_raw_string(text: &[u8], offset: usize, k: Allowed) -> Quoted
     requires { ⌜ offset ≤ length (now text) ⌝ }
     ensures { λ r. ⌜ quoteOf r ≡ rawOf k offset (now (text .entry)) ⌝ }

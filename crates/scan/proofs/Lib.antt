@@ -3,6 +3,5 @@ pub mod Tables
 pub mod Parts
 pub mod Runs
 pub mod Sames
-pub mod Sets
 pub mod Bytes
 pub mod Windows

@@ -12,7 +12,7 @@ use lib.ListN.{length, getD, take, drop, drop-of-length-le, length-drop, take-ap
 use borrow.Author.Tests.{ne-eqb}
 use lib.Seq.{drop-cons, drop-drop}
 use Rattle.scan.specs.Run.{run, outs, All, Stops}
-use Rattle.scan.proofs.Cases.{cond-in, by-lt, clash}
+use Rattle.scan.proofs.Cases.{cond-in, clash}
 
 -- the run from i on, where the byte at i passes, is one more than the run from the next
 pub run-more : (p : ℕ → Bool) (s : List ℕ) (i : ℕ) → i < length s → p (getD s i 0) ≡ true → i + run p (drop i s) ≡ i + 1 + run p (drop (i + 1) s)
@@ -76,22 +76,9 @@ run-past p (suc m) (b ∷ s) h = by-test (p b) (run-past p m s) h
     by-test true f g = omega (arith, f (omega arith))
     by-test false f g = absurd (omega arith)
 
--- a byte that does not pass ends it
-pub run-before : (p : ℕ → Bool) (s : List ℕ) (i : ℕ) → p (getD s i 0) ≡ false → run p s ≤ i
-run-before p s i e = by-lt i (run p s) (λ h. clash (run-each p s i h) e) (λ h. h)
-
 -- a byte that passes, behind others that do, makes it longer
 pub run-reach : (p : ℕ → Bool) (s : List ℕ) (i : ℕ) → i < length s → i ≤ run p s → p (getD s i 0) ≡ true → i + 1 ≤ run p s
 run-reach p s i h g t = omega (arith, run-past p i s g, run-more p s i h t)
-
--- what passes more bytes has a longer one
-pub run-wider : (p q : ℕ → Bool) (s : List ℕ) → ((b : ℕ) → p b ≡ true → q b ≡ true) → run p s ≤ run q s
-run-wider p q [] f = omega arith
-run-wider p q (b ∷ s) f = go (p b) refl (run-wider p q s f)
-  where
-    go : (t : Bool) → p b ≡ t → run p s ≤ run q s → cond t (suc (run p s)) 0 ≤ run q (b ∷ s)
-    go true e h = rw (f b e) (omega arith)
-    go false e h = omega arith
 
 -- two lists whose bytes pass, one behind the other
 pub all-append : (p : ℕ → Bool) (s t : List ℕ) → All p s → All p t → All p (s ++ t)

@@ -1,12 +1,10 @@
 -- `same` is equality of lists, and how a loop that compares goes on.
 -- Assumes nothing.
 use mathlib.Core.Path.{_≡_, refl, ap}
-use mathlib.Core.Logic.{_↔_}
 use mathlib.Core.Bool.{Bool, true, false, _&&_}
 use mathlib.Core.List.{List, [], _∷_}
-use Prim.Native.Nat.{ℕ, suc, _+_, _≤_, _<_}
+use Prim.Native.Nat.{ℕ, _+_, _≤_, _<_}
 use native.Mathlib.Numerals.{add-one}
-use native.Mathlib.Omega.{arith}
 use borrow.Author.Tests.{eq-eqb, ne-eqb, eqb-true}
 use lib.Dec.{eqb}
 use lib.ListN.{length, getD, drop, drop-of-length-le}
@@ -28,10 +26,6 @@ same-eq (a ∷ s) (b ∷ t) h = by-test (same-eq s t) (eqb a b) refl h
     by-test f true e h = cc (eqb-true a b e, f h)
     by-test f false e h = clash h refl
 
--- THE LAW: the test holds exactly of equal lists
-pub same-right : (s t : List ℕ) → (same s t ≡ true) ↔ (s ≡ t)
-same-right s t = (same-eq s t, λ e. rw e (same-refl t))
-
 -- not of lists that differ: in length, or in a byte
 pub same-ne : (s t : List ℕ) → (s ≡ t → ⊥) → same s t ≡ false
 same-ne s t h = by-test (same s t) refl
@@ -42,18 +36,6 @@ same-ne s t h = by-test (same s t) refl
 
 pub same-lengths : (s t : List ℕ) → (length s ≡ length t → ⊥) → same s t ≡ false
 same-lengths s t h = same-ne s t (λ e. h (ap length e))
-
-pub same-differs : (s t : List ℕ) (i : ℕ) → (getD s i 0 ≡ getD t i 0 → ⊥) → same s t ≡ false
-same-differs s t i h = same-ne s t (λ e. h (ap (λ (l : List ℕ). getD l i 0) e))
-
--- the bytes of s from i on are those of t
-abbrev pub bytesFrom : List ℕ → ℕ → List ℕ → Bool
-bytesFrom s i [] = true
-bytesFrom s i (b ∷ t) = eqb (getD s i 0) b && bytesFrom s (suc i) t
-
-pub same-bytes : (s : List ℕ) (i : ℕ) (t : List ℕ) → length s ≡ i + length t → same (drop i s) t ≡ bytesFrom s i t
-same-bytes s i [] h = rw (drop-of-length-le s {i = i} (omega arith))
-same-bytes s i (b ∷ t) h = rw (drop-cons s i 0 (omega arith)) (ap (λ (x : Bool). eqb (getD s i 0) b && x) (same-bytes s (suc i) t (omega arith)))
 
 -- ---- a loop that stands at i has found the bytes before it equal
 

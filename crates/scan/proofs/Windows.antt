@@ -26,10 +26,6 @@ module _ (p : ℕ → Bool) (s : List ℕ) where
   unfolding allIn
   reached at n e = leb-true n (run p (drop at s)) e
 
-  -- where all of them pass, behind others that do, the run goes on behind them
-  pub all-passed : (at n : ℕ) → at ≤ run p s → allIn p at n s ≡ true → at + n ≤ run p s
-  all-passed at n h e = omega (arith, run-past p at s h, reached at n e)
-
   -- and where it reaches a byte that fails, it ends there
   pub all-last : (n : ℕ) → n < length s → n ≤ run p s → p (getD s n 0) ≡ false → n ≡ run p s
   all-last n h l e = omega (arith, run-stop p s n h e, run-past p n s l)

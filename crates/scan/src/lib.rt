@@ -1,13 +1,12 @@
 // Reading a byte or nothing, comparing two texts, tests as numbers, whether some bytes are ASCII, and counting loops over a set of bytes.
 ghost use mathlib.Core.Path.{_≡_};
-ghost use mathlib.Core.Bool.{cond};
 ghost use Prim.Native.Nat.{_+_, _-_, _≤_, min, max};
-ghost use lib.ListN.{length, drop, getD};
+ghost use lib.ListN.{length, getD};
 ghost use Rattle.scan.specs.Bit.{bit};
 ghost use Rattle.scan.specs.Byte.{byteOf};
-ghost use Rattle.scan.specs.Run.{run, outs};
+ghost use Rattle.scan.specs.Run.{run};
 ghost use Rattle.scan.specs.Same.{same};
-ghost use Rattle.scan.specs.Sets.{inSet, except, ascii};
+ghost use Rattle.scan.specs.Sets.{inSet, ascii};
 ghost use Rattle.scan.specs.Windows.{allIn};
 
 // The byte at an index, or nothing past the end.
@@ -60,7 +59,7 @@ pub fn larger(a: u8, b: u8) -> u8
     if a < b { b } else { a }
 }
 
-// Whether the two bytes at an offset are ASCII. Both are tested in any case, so that of such tests, joined by `&`, the compiler makes one vector.
+// Whether the two bytes at an offset are ASCII. Joined by `&`, so that LLVM vectorises it.
 pub fn two_ascii(s: &[u8], at: usize) -> bool
     requires { ⌜ at + 2 ≤ length (now s) ⌝ }
     ensures { λ r. ⌜ r ≡ allIn ascii at 2 (now (s .entry)) ⌝ }
@@ -68,7 +67,7 @@ pub fn two_ascii(s: &[u8], at: usize) -> bool
     (s[at] < 128) & (s[at + 1] < 128)
 }
 
-// The same of four bytes.
+// Whether the four bytes at an offset are ASCII.
 pub fn four_ascii(s: &[u8], at: usize) -> bool
     requires { ⌜ at + 4 ≤ length (now s) ⌝ }
     ensures { λ r. ⌜ r ≡ allIn ascii at 4 (now (s .entry)) ⌝ }
@@ -76,7 +75,7 @@ pub fn four_ascii(s: &[u8], at: usize) -> bool
     two_ascii(s, at) & two_ascii(s, at + 2)
 }
 
-// The same of eight bytes.
+// Whether the eight bytes at an offset are ASCII.
 pub fn eight_ascii(s: &[u8], at: usize) -> bool
     requires { ⌜ at + 8 ≤ length (now s) ⌝ }
     ensures { λ r. ⌜ r ≡ allIn ascii at 8 (now (s .entry)) ⌝ }
@@ -130,53 +129,4 @@ pub fn run_len(s: &[u8], set: ByteSet) -> usize
         i += 1;
     }
     i
-}
-
-fn mark(b: u8, x: u8) -> u8
-    ensures { λ r. ⌜ (r ≤ 1) × (r ≡ cond (except x b) 0 1) ⌝ }
-{
-    if b == x { 1 } else { 0 }
-}
-
-// How many bytes are x. With no exit on the way and a sum of one byte the compiler makes vectors of it.
-fn marks(s: &[u8], x: u8) -> u8
-    requires { ⌜ length (now s) ≤ 255 ⌝ }
-    ensures { λ r. ⌜ r ≡ outs (except x) (now (s .entry)) ⌝ }
-{
-    let mut n: u8 = 0;
-    let mut i = 0;
-    while i < s.len() {
-        n += mark(s[i], x);
-        i += 1;
-    }
-    n
-}
-
-fn byte_end(s: &[u8], from: usize, x: u8) -> usize
-    requires { ⌜ from ≤ length (now s) ⌝ }
-    ensures { λ r. ⌜ r ≡ from + run (except x) (drop from (now (s .entry))) ⌝ }
-{
-    let mut i = from;
-    while i < s.len() {
-        if s[i] == x {
-            return i;
-        }
-        i += 1;
-    }
-    i
-}
-
-// How many bytes stand before the first x: by blocks while there are 64 bytes, then byte by byte.
-pub fn run_except(s: &[u8], x: u8) -> usize
-    ensures { λ r. ⌜ r ≡ run (except x) (now (s .entry)) ⌝ }
-{
-    let mut i = 0;
-    while 64 <= s.len() - i {
-        let e = i + 64;
-        if marks(&s[i..e], x) != 0 {
-            return byte_end(s, i, x);
-        }
-        i = e;
-    }
-    byte_end(s, i, x)
 }

@@ -9,30 +9,36 @@ use borrow.Author.Tests.{le-leb, lt-leb}
 use lib.Dec.{eqb, leb}
 use lib.ListN.{length, drop, length-append, length-drop}
 use Rattle.err.specs.Outcome.{Place, none, Outcome, refused, accepted}
-use Rattle.err.specs.Reading.{baseOf, outcomeOf}
-use Rattle.err.specs.declared.IntegerLit.{IntegerLit}
+use Rattle.err.specs.Reading.{outcomeOf}
 use Rattle.err.specs.declared.Reading.{Reading}
-use Rattle.err.specs.declared.Reading.the-variants as reading
 use Rattle.buffer.specs.Buffer.{over}
 use Rattle.grammar.specs.Meaning.{Worth}
-use Rattle.grammar.specs.Meaning as worth
-use Rattle.form.specs.Form.{bareForm, formOf, faultOf, integerForm}
-use Rattle.integer_value.specs.Value.{numberWithin, number}
-use Rattle.integer_value.specs.declared.Within.the-variants.{Number, Over}
-use Rattle.scaling.specs.Scaled.{part}
+use Rattle.form.specs.Form.{bareForm, formOf, faultOf}
 use Rattle.numbers.specs.Numbers.{kindIn, suffixIn}
 use Rattle.literal.specs.Readings.{readAt}
 use Rattle.bare_form.proofs.Readings.{short, start}
 use Rattle.bare_form.specs.Worths.{worthOf}
-use Rattle.bare_form.proofs.Lengths.{no-len, is-within, is-over}
+use Rattle.bare_form.proofs.Lengths.{no-len}
 use Rattle.bare_form.specs.Bare.{len, bad, bareLen, bareBy, bareFormBy, Roomy}
 use Rattle.form_bound.specs.Bound.{surelyFits}
 use Rattle.form_bound.proofs.Sure.{surely}
-use Rattle.settle.specs.Settled.{Settle, formed, withheld, measured, measureOf, measureAt, settleAt, formBy, formAt, bufferAt, Fits}
+use Rattle.settle.specs.Settled.{Settle, given, formed, withheld, measured, measureOf, measureAt, settleAt, formBy, formAt, bufferAt, Fits}
 
 -- a form is no refusal
 pub no-form {ℓ} : {A : Type ℓ} {k n m : ℕ} {p : Place} → withheld m p ≡ formed k n → A
 no-form e = let z : _≡_ {A = ℕ} 0 1 = cc in absurd (omega arith)
+
+-- the kind and the length that a form is given with
+pub same-form : {k j m n : ℕ} → formed k m ≡ formed j n → (k ≡ j) × (m ≡ n)
+same-form e = (ap kind e, ap size e)
+  where
+    kind : Settle → ℕ
+    kind (given (k, n)) = k
+    kind (withheld n p) = 0
+
+    size : Settle → ℕ
+    size (given (k, n)) = n
+    size (withheld n p) = 0
 
 -- ---- of a worth w, before a suffix x
 
@@ -55,10 +61,6 @@ module _ (w : Worth) (x : List ℕ) where
       by-test true e = (refl, cc)
       by-test false e = no-len e
 
-  form-length : length (formOf w x) ≡ length (bareForm w x) + length x
-  unfolding formOf
-  form-length = length-append (bareForm w x) x
-
   measured-by : (k : ℕ) → eqb (faultOf w) 0 ≡ true
       → measured k w x ≡ cond (leb (length (formOf w x)) 65536) (formed k (length (formOf w x))) (withheld 47 none)
   unfolding measured
@@ -71,7 +73,7 @@ module _ (w : Worth) (x : List ℕ) where
     where
       by-test : (t u : Bool) → cond t (cond u (formed k (length (formOf w x))) (withheld 47 none)) (withheld (faultOf w) none) ≡ formed j n
           → (cond t (len (length (bareForm w x))) (bad (faultOf w) none) ≡ len (length (bareForm w x))) × (n ≡ length (formOf w x)) × (j ≡ k)
-      by-test true true e = (refl, cc, cc)
+      by-test true true e = let z = same-form e in (refl, sym (z .1), sym (z .0))
       by-test true false e = no-form e
       by-test false u e = no-form e
 
@@ -130,7 +132,7 @@ pub form-inside : (s : List ℕ) (o : Outcome) {n : ℕ} → o ≡ readAt 0 s �
 form-inside s (refused n q) is e = no-len e
 form-inside s (accepted k e vs) is f = (start s is, short s is)
 
--- ---- the answers of settling, and the buffer at exit
+-- ---- what settling returns, and the buffer at exit
 
 abbrev pub Answers : List ℕ → List ℕ → Settle → List ℕ → Type 0
 Answers s buf a after = (a ≡ settleAt s (length buf)) × (after ≡ bufferAt s buf)
@@ -163,45 +165,6 @@ surely-ready s have found is e =
     let o = outcomeOf found in
     let f = surely s have found is e in
     formed-fits s o (measure-formed s o (f .form) (f .short)) (f .room)
-
--- ---- integers, which may have none
-
--- the number that is at most the largest
-same-number : (m : ℕ) {n : ℕ} → Number n ≡ numberWithin 18446744073709551615 m → n ≡ m
-same-number m {n} = by-test (leb m 18446744073709551615)
-  where
-    by-test : (t : Bool) → Number n ≡ cond t (Number m) Over → n ≡ m
-    by-test true e = cc
-    by-test false e = let z : _≡_ {A = ℕ} 0 1 = cc in absurd (omega arith)
-
-module _ (s : List ℕ) (lit : IntegerLit) where
-  -- the number that an integer's digits mark
-  abbrev pub numberIn : ℕ
-  numberIn = number (baseOf (lit .base)) (part (lit .«start_main_part») (lit .«end_main_part») s)
-
-  pub integer-over : Over ≡ numberWithin 18446744073709551615 numberIn → withheld 45 none ≡ measureOf s (outcomeOf (reading.Integer lit))
-  integer-over w = sym (measure-refused s (outcomeOf (reading.Integer lit)) (sym (is-over _ (drop (lit .«end_main_part») s) w)))
-
-  module _ {n : ℕ} (w : Number n ≡ numberWithin 18446744073709551615 numberIn) where
-    integer-bare : bareBy s (outcomeOf (reading.Integer lit)) ≡ len (length (integerForm n (drop (lit .«end_main_part») s)))
-    integer-bare = sym (is-within _ (drop (lit .«end_main_part») s) w)
-
-    -- its form is made of the number and the suffix
-    pub integer-form : formBy s (outcomeOf (reading.Integer lit)) ≡ formOf (worth.integer n) (drop (lit .«end_main_part») s)
-    integer-form = ap (λ (m : ℕ). formOf (worth.integer m) (drop (lit .«end_main_part») s)) (sym (same-number numberIn w))
-
-    pub integer-size : length (formOf (worth.integer n) (drop (lit .«end_main_part») s))
-        ≡ length (integerForm n (drop (lit .«end_main_part») s)) + (length s - lit .«end_main_part»)
-    integer-size = form-length (worth.integer n) (drop (lit .«end_main_part») s) ∙ rw length-drop
-
-    pub integer-long : 65536 < length (integerForm n (drop (lit .«end_main_part») s)) + (length s - lit .«end_main_part»)
-        → withheld 47 none ≡ measureOf s (outcomeOf (reading.Integer lit))
-    integer-long h = sym (measure-long s (outcomeOf (reading.Integer lit)) integer-bare h)
-
-    pub integer-formed : length (integerForm n (drop (lit .«end_main_part») s)) + (length s - lit .«end_main_part») ≤ 65536
-        → formed 2 (length (integerForm n (drop (lit .«end_main_part») s)) + (length s - lit .«end_main_part»))
-        ≡ measureOf s (outcomeOf (reading.Integer lit))
-    integer-formed h = sym (measure-formed s (outcomeOf (reading.Integer lit)) integer-bare h)
 
 -- a text that is not read is refused as it is there, and the buffer is as it came
 pub read-refused : (s : List ℕ) {n : ℕ} {p : Place} → readAt 0 s ≡ refused n p

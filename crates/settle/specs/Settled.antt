@@ -1,4 +1,4 @@
--- What measuring and settling answer, and what the lent buffer holds then (01, The settled form; Order: "then 45 or 46, 47, 48").
+-- What measuring and settling return, and what the lent buffer holds then (01, The settled form; Order: "then 45 or 46, 47, 48").
 -- Assumes nothing.
 use mathlib.Core.Bool.{cond}
 use mathlib.Core.List.{List, []}
@@ -6,7 +6,9 @@ use mathlib.Core.Path.{_≡_}
 use Prim.Native.Nat.{ℕ, _≤_}
 use lib.Dec.{eqb, leb}
 use lib.ListN.{length, drop}
-use Rattle.err.specs.Outcome.{Place, none, Outcome, refused, accepted}
+use Rattle.err.specs.Outcome.{none, Outcome, refused, accepted}
+use Rattle.err.specs.Answer.{Answer}
+pub use Rattle.err.specs.Answer.{given, withheld}
 use Rattle.err.specs.Numbers.{numberOf}
 use Rattle.err.specs.Reading.{placeOf}
 use Rattle.buffer.specs.Buffer.{over}
@@ -14,18 +16,25 @@ use Rattle.grammar.specs.Meaning.{Worth}
 use Rattle.form.specs.Form.{formOf, faultOf}
 use Rattle.literal.specs.Readings.{readAt}
 use Rattle.bare_form.specs.Worths.{worthOf}
-use Rattle.bare_form.specs.Bare.{len, bareBy, bareFormBy}
+use Rattle.bare_form.specs.Bare.{BareLength, len, bad, bareBy, bareFormBy}
 use Rattle.settle.specs.declared.Settled.{Settled}
 use Rattle.settle.specs.declared.Settled.the-variants as settled
 
 -- a form's kind and length; or a refusal's number and span
-pub data Settle : Type 0 where
-  formed : ℕ → ℕ → Settle
-  withheld : ℕ → Place → Settle
+abbrev pub Settle : Type 0
+Settle = Answer (ℕ × ℕ)
+
+abbrev pub formed : ℕ → ℕ → Settle
+formed k n = given (k, n)
 
 abbrev pub settledOf : Settled → Settle
 settledOf (settled.Formed k n) = formed k n
 settledOf (settled.Refused k p) = withheld (numberOf k) (placeOf p)
+
+-- the refusal of a measure without the suffix; a length has none, and 3 without a span stands for it (for a contract between functions)
+abbrev pub refusedBare : BareLength → Settle
+refusedBare (len n) = withheld 3 none
+refusedBare (bad n p) = withheld n p
 
 -- ---- the measure
 
@@ -50,7 +59,7 @@ measureAt s = measureOf s (readAt 0 s)
 -- a buffer of `have` bytes that is shorter than the form is 48
 abbrev pub fitted : ℕ → Settle → Settle
 fitted have (withheld n p) = withheld n p
-fitted have (formed k n) = cond (leb n have) (formed k n) (withheld 48 none)
+fitted have (given (k, n)) = cond (leb n have) (formed k n) (withheld 48 none)
 
 unfoldable pub settleAt : List ℕ → ℕ → Settle
 settleAt s have = fitted have (measureAt s)
@@ -63,9 +72,9 @@ formBy s (accepted k e vs) = formOf (worthOf k s vs) (drop e s)
 unfoldable pub formAt : List ℕ → List ℕ
 formAt s = formBy s (readAt 0 s)
 
--- the whole buffer at exit: the form, and behind it what it held; refused: exactly as it came
+-- the whole buffer at exit: the form, and after it what it held; refused: exactly as it came
 abbrev pub bufferBy : Settle → List ℕ → List ℕ → List ℕ
-bufferBy (formed k n) form buf = over form buf
+bufferBy (given (k, n)) form buf = over form buf
 bufferBy (withheld n p) form buf = buf
 
 unfoldable pub bufferAt : List ℕ → List ℕ → List ℕ

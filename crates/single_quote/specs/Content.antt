@@ -1,4 +1,4 @@
--- What litrs's `CharLit::parse` and `ByteLit::parse` find behind the opening quote where it is no escape (01, Quoted kinds).
+-- What litrs's `CharLit::parse` and `ByteLit::parse` find after the opening quote where it is no escape (01, Quoted kinds).
 -- Assumes nothing.
 use Prim.Native.Nat.{ℕ, _+_}
 use mathlib.Core.Bool.{Bool, cond, _||_}

@@ -1,4 +1,4 @@
-// In what char and byte literals differ, and what stands behind their opening quote where it is no escape.
+// In what char and byte literals differ, and what stands after their opening quote where it is no escape.
 use err::ByteLit;
 use err::CharLit;
 use err::ParseErrorKind;
@@ -22,7 +22,7 @@ pub enum Quote {
 }
 
 impl Quote {
-    // Where the character starts: behind `'` or `b'`.
+    // Where the character starts: after `'` or `b'`.
     pub fn offset(self) -> usize
         ensures { λ r. ⌜ r ≡ offsetOf self ⌝ }
     {
@@ -166,7 +166,7 @@ pub fn is_special(b: u8) -> bool
     b == b'\r'
 }
 
-// A quote at once: another behind it is one that was not escaped.
+// A quote at once: another after it is one that was not escaped.
 pub fn quote_first(text: &[u8], at: usize, q: Quote) -> Inner
     requires { ⌜ at < length (now text) ⌝ }
     ensures { λ r. ⌜ innerOf r ≡ quoteAt q (now (text .entry)) at ⌝ }

@@ -10,44 +10,43 @@ use Rattle.err.specs.Outcome.{Values, accepted, Rawness, notRaw, raw, decoded}
 use Rattle.scan.specs.Run.{run, All}
 use Rattle.scan.specs.Sets.{only}
 use Rattle.scan.proofs.Runs.{run-is}
+use Rattle.escape.specs.declared.Allowed.{Allowed}
+use Rattle.escape.specs.declared.Allowed.the-variants.{Text, Bytes, C}
 use Rattle.suffix.specs.Suffix.{suffixFault}
 use Rattle.utf8.specs.Cut.{Aligned}
 use Rattle.utf8.proofs.Aligned.{aligned-rest}
-use Rattle.escape.specs.declared.Allowed.{Allowed}
 use Rattle.body.specs.Step.{close}
 use Rattle.body.specs.Body.{Body, body, rawBody}
 use Rattle.body.specs.Quote.{closing, afterBody, stringOf}
 use Rattle.body.proofs.Strings.{suffix-good, raw-is}
 use Rattle.body_value.proofs.Complete as pieces
 use Rattle.body_value.proofs.Exact.{raw-exact}
-use Rattle.string.specs.String.{kindOf, offsetOf, allowedIn, openingBy, openingAt, ofQuote, readBy, stringRead, hashesAt, valueBy, stringValue}
+use Rattle.string.specs.String.{kindOf, offsetOf, openingBy, openingAt, ofQuote, readBy, stringRead, hashesAt, valueBy, stringValue}
 use Rattle.string.specs.Parts.{letterOf, hashes, QuotedParts, RawParts, Tiled, as-quoted, as-raw}
-use Rattle.string.specs.declared.Kind.{Kind}
-use Rattle.string.specs.declared.Kind.the-variants.{Text, Bytes, C}
 use Rattle.string.specs.declared.Opening.{Opening}
 use Rattle.string.specs.declared.Opening.the-variants as opening
 use Rattle.string.proofs.Starts.{read-some}
 
 -- ---- how it opens
 
-opens-quoted : (k : Kind) (r : List ℕ) → openingAt k (letterOf k ++ (34 ∷ r)) ≡ opening.Quoted
+opens-quoted : (k : Allowed) (r : List ℕ) → openingAt k (letterOf k ++ (34 ∷ r)) ≡ opening.Quoted
 unfolding openingBy
 opens-quoted Text r = refl
 opens-quoted Bytes r = refl
 opens-quoted C r = refl
 
-opens-raw : (k : Kind) (r : List ℕ) → openingAt k (letterOf k ++ (114 ∷ r)) ≡ opening.Raw
+opens-raw : (k : Allowed) (r : List ℕ) → openingAt k (letterOf k ++ (114 ∷ r)) ≡ opening.Raw
 unfolding openingBy
 opens-raw Text r = refl
 opens-raw Bytes r = refl
 opens-raw C r = refl
 
-opened-length : (k : Kind) (x : ℕ) (r : List ℕ) → length (letterOf k ++ (x ∷ r)) ≡ offsetOf k + length r
+opened-length : (k : Allowed) (x : ℕ) (r : List ℕ) → length (letterOf k ++ (x ∷ r)) ≡ offsetOf k + length r
 opened-length Text x r = omega arith
 opened-length Bytes x r = omega arith
 opened-length C x r = omega arith
 
-behind-opening : (k : Kind) (x : ℕ) (r : List ℕ) → drop (offsetOf k) (letterOf k ++ (x ∷ r)) ≡ r
+behind-opening : (k : Allowed) (x : ℕ) (r : List ℕ) → drop (offsetOf k) (letterOf k ++ (x ∷ r)) ≡ r
 behind-opening Text x r = refl
 behind-opening Bytes x r = refl
 behind-opening C x r = refl
@@ -72,7 +71,7 @@ behind-hashes h x r = rw hashes-length at (drop-append-add (hashes h) (x ∷ r) 
 
 -- ---- what is read
 
-module _ (k : Kind) (s v : List ℕ) (e : ℕ) (vs : Values) where
+module _ (k : Allowed) (s v : List ℕ) (e : ℕ) (vs : Values) where
   abbrev Complete : Type 0
   Complete = (stringRead k s ≡ accepted (kindOf k) e vs) × (stringValue k s ≡ v)
 
@@ -84,12 +83,12 @@ module _ (k : Kind) (s v : List ℕ) (e : ℕ) (vs : Values) where
       let some : length s ≡ 0 → ⊥ = λ z. omega (arith, ap length is, opened-length k x r, positive k) in
       (read-some k s some ∙ ap (λ (y : Opening). readBy k y s) opens ∙ read, ap (λ (y : Opening). valueBy k y s) opens ∙ val)
     where
-      positive : (k : Kind) → 0 < offsetOf k
+      positive : (k : Allowed) → 0 < offsetOf k
       positive Text = omega arith
       positive Bytes = omega arith
       positive C = omega arith
 
-  -- a body that closes, with a good suffix behind it
+  -- a body that closes, with a good suffix after it
   closed : (r : Rawness) (offset n : ℕ) (b : Body) (suf : List ℕ) → b ≡ record { at = n; value = v; end = close }
       → drop (offset + n + closing r) s ≡ suf → suffixFault suf ≡ 0 → e ≡ offset + n + closing r → vs ≡ decoded r (length v)
       → ofQuote k (afterBody s r offset b) ≡ accepted (kindOf k) e vs
@@ -100,7 +99,6 @@ module _ (k : Kind) (s v : List ℕ) (e : ℕ) (vs : Values) where
       → vs ≡ decoded notRaw (length v) → Complete
   unfolding stringOf
   quoted-complete content suf al parts end values =
-      let a : Allowed = allowedIn k in
       let o : ℕ = offsetOf k in
       let r : List ℕ = content ++ (34 ∷ suf) in
       let d-is : drop o s ≡ r = rw (parts .text) (behind-opening k 34 r) in
@@ -108,14 +106,13 @@ module _ (k : Kind) (s v : List ℕ) (e : ℕ) (vs : Values) where
       let more : o + length content + 1 ≡ o + (length content + 1) = omega arith in
       let rest : drop (o + length content + 1) s ≡ suf = rw (more, ← drop-drop, d-is) (drop-append-add content (34 ∷ suf) 1) in
       let size : length s ≡ o + length r = ap length (parts .text) ∙ opened-length k 34 r in
-      let b : body a (drop o s) ≡ record { at = length content; value = v; end = close } = rw d-is (pieces.complete a (parts .pieces) suf al') in
+      let b : body k (drop o s) ≡ record { at = length content; value = v; end = close } = rw d-is (pieces.complete k (parts .pieces) suf al') in
       read-by 34 r opening.Quoted (parts .text) (rw (parts .text) (opens-quoted k r))
-      (closed notRaw o (length content) (body a (drop o s)) suf b rest (parts .suffix) (omega (arith, length-append content (34 ∷ suf))) values)
+      (closed notRaw o (length content) (body k (drop o s)) suf b rest (parts .suffix) (omega (arith, length-append content (34 ∷ suf))) values)
       (ap (λ (x : Body). x .value) b)
 
   raw-complete : (suf : List ℕ) (h : ℕ) → RawParts k s v suf h → e + length suf ≡ length s → vs ≡ decoded (raw h) (length v) → Complete
   raw-complete suf h parts end values =
-      let a : Allowed = allowedIn k in
       let o : ℕ = offsetOf k in
       let d : List ℕ = v ++ (34 ∷ (hashes h ++ suf)) in
       let r : List ℕ = hashes h ++ (34 ∷ d) in
@@ -127,18 +124,18 @@ module _ (k : Kind) (s v : List ℕ) (e : ℕ) (vs : Values) where
       let size : length s ≡ o + length r = ap length (parts .text) ∙ opened-length k 114 r in
       let size-r : length r ≡ h + suc (length d) = length-append (hashes h) (34 ∷ d) ∙ rw hashes-length in
       let size-d : length d ≡ length v + suc (h + length suf) = length-append v (34 ∷ (hashes h ++ suf)) ∙ rw (length-append, hashes-length) in
-      let b : rawBody a h (drop (o + h + 1) s) ≡ record { at = length v; value = v; end = close } =
-      rw body-is (raw-exact a h d (length v) .1 (parts .bytes) ∙ rw take-append-seam) in
+      let b : rawBody k h (drop (o + h + 1) s) ≡ record { at = length v; value = v; end = close } =
+      rw body-is (raw-exact k h d (length v) .1 (parts .bytes) ∙ rw take-append-seam) in
       let more : o + h + 1 + length v + (h + 1) ≡ o + h + 1 + (length v + suc h) = omega arith in
       let rest : drop (o + h + 1 + length v + (h + 1)) s ≡ suf =
       rw (more, ← drop-drop, body-is, drop-append-add v (34 ∷ (hashes h ++ suf)) (suc h)) (drop-at (hashes h) suf h (hashes-length h)) in
       read-by 114 r opening.Raw (parts .text) (rw (parts .text) (opens-raw k r))
-      (ap (ofQuote k) (sym (raw-is a o s h count (λ x. omega arith) (parts .few) quote))
-      ∙ closed (raw h) (o + h + 1) (length v) (rawBody a h (drop (o + h + 1) s)) suf b rest (parts .suffix) (omega arith) values)
-      (ap (λ (n : ℕ). rawBody a n (drop (o + n + 1) s) .value) (sym count) ∙ ap (λ (x : Body). x .value) b)
+      (ap (ofQuote k) (sym (raw-is k o s h count (λ x. omega arith) (parts .few) quote))
+      ∙ closed (raw h) (o + h + 1) (length v) (rawBody k h (drop (o + h + 1) s)) suf b rest (parts .suffix) (omega arith) values)
+      (ap (λ (n : ℕ). rawBody k n (drop (o + n + 1) s) .value) (sym count) ∙ ap (λ (x : Body). x .value) b)
 
 -- THE LAW; an escape `\x41` before a byte 10xxxxxx is refused, so the text has to be aligned.
-pub complete : (k : Kind) (s v : List ℕ) {e : ℕ} {vs : Values} → Aligned s → Tiled k s v e vs
+pub complete : (k : Allowed) (s v : List ℕ) {e : ℕ} {vs : Values} → Aligned s → Tiled k s v e vs
     → (stringRead k s ≡ accepted (kindOf k) e vs) × (stringValue k s ≡ v)
 complete k s v {e} {vs} al (as-quoted content suf parts end values) = quoted-complete k s v e vs content suf al parts end values
 complete k s v {e} {vs} al (as-raw suf h parts end values) = raw-complete k s v e vs suf h parts end values

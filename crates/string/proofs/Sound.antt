@@ -11,8 +11,9 @@ use Rattle.scan.specs.Run.{run}
 use Rattle.scan.specs.Sets.{only}
 use Rattle.scan.proofs.Cases.{cond-eq, cond-lt, by-lt}
 use Rattle.scan.proofs.Runs.{run-le}
-use Rattle.suffix.specs.Suffix.{suffixFault}
 use Rattle.escape.specs.declared.Allowed.{Allowed}
+use Rattle.escape.specs.declared.Allowed.the-variants.{Text, Bytes, C}
+use Rattle.suffix.specs.Suffix.{suffixFault}
 use Rattle.body.specs.Step.{End, close, refuse}
 use Rattle.body.specs.Body.{Body, body, rawBody}
 use Rattle.body.specs.Quote.{Quote, closing, suffixed, afterEnd, stringOf, rawFrom, rawAt, rawOf}
@@ -20,11 +21,9 @@ use Rattle.body.specs.Pieces.{RawContent}
 use Rattle.body.proofs.Raws.{raw-value}
 use Rattle.body_value.proofs.Sound as content
 use Rattle.body_value.proofs.Exact.{raw-exact}
-use Rattle.string.specs.String.{kindOf, offsetOf, allowedIn, openingBy, openingAt, startFault, ofQuote, readBy, stringRead}
+use Rattle.string.specs.String.{kindOf, offsetOf, openingBy, openingAt, startFault, ofQuote, readBy, stringRead}
 use Rattle.string.specs.String.{hashesAt, valueBy, stringValue}
 use Rattle.string.specs.Parts.{letterOf, hashes, Tiled, as-quoted, as-raw}
-use Rattle.string.specs.declared.Kind.{Kind}
-use Rattle.string.specs.declared.Kind.the-variants.{Text, Bytes, C}
 use Rattle.string.specs.declared.Opening.{Opening}
 use Rattle.string.specs.declared.Opening.the-variants as opening
 use Rattle.string.proofs.Literals.{opening-inside}
@@ -45,13 +44,13 @@ opens-by (b ∷ s) =
     let P : Opening → Type 0 = Opens [] 1 (b ∷ s) in
     cond-eq P b 34 (λ e. rw e) λ e. cond-eq P b 114 (λ f. rw f) (λ f. tt)
 
--- and behind a letter
+-- and after a letter
 opens-behind : (x : ℕ) (s : List ℕ) (o : Opening) → Opens [] 1 s o → Opens (x ∷ []) 2 (x ∷ s) o
 opens-behind x s opening.Quoted e = ap (λ (l : List ℕ). x ∷ l) e
 opens-behind x s opening.Raw e = ap (λ (l : List ℕ). x ∷ l) e
 opens-behind x s opening.Neither e = tt
 
-opens : (k : Kind) (s : List ℕ) → Opens (letterOf k) (offsetOf k) s (openingAt k s)
+opens : (k : Allowed) (s : List ℕ) → Opens (letterOf k) (offsetOf k) s (openingAt k s)
 unfolding openingBy
 opens Text s = opens-by s
 opens Bytes [] = tt
@@ -61,10 +60,10 @@ opens C [] = tt
 opens C (b ∷ s) =
     cond-eq (Opens (99 ∷ []) 2 (b ∷ s)) b 99 (λ e. rw e (opens-behind 99 s (openingBy (getD s 0 0)) (opens-by s))) (λ e. tt)
 
--- ---- what is read behind the body
+-- ---- what is read after the body
 
 -- of an accepted literal whose body ends at an offset
-record Ended (k : Kind) (s : List ℕ) (r : Rawness) (at len : ℕ) (why : End) (kind e : ℕ) (vs : Values) : Type 0 where
+record Ended (k : Allowed) (s : List ℕ) (r : Rawness) (at len : ℕ) (why : End) (kind e : ℕ) (vs : Values) : Type 0 where
   closes : why ≡ close
   is-kind : kind ≡ kindOf k
   start : e ≡ at + closing r
@@ -84,8 +83,8 @@ hashes-first (suc h) (b ∷ l) g =
     (λ e g. ap (λ (x : ℕ). x ∷ l) e ∙ ap (λ (x : List ℕ). 35 ∷ x) (hashes-first h l (omega arith)))
     (λ e g. absurd (omega arith)) g
 
-module _ (k : Kind) (s : List ℕ) (kind e : ℕ) (vs : Values) where
-  -- whatever the body, behind it stands what closes it and a good suffix
+module _ (k : Allowed) (s : List ℕ) (kind e : ℕ) (vs : Values) where
+  -- whatever the body, after it stands what closes it and a good suffix
   ended : (r : Rawness) (at len : ℕ) (why : End) → ofQuote k (afterEnd s r at len why) ≡ accepted kind e vs → Ended k s r at len why kind e vs
   unfolding suffixed
   ended r at len (refuse n p) g = absurd (let z : _≡_ {A = ℕ} 0 1 = cc in omega arith)
@@ -100,15 +99,14 @@ module _ (k : Kind) (s : List ℕ) (kind e : ℕ) (vs : Values) where
   -- ---- quoted
 
   quoted-sound : s ≡ letterOf k ++ (34 ∷ drop (offsetOf k) s) → offsetOf k ≤ length s
-      → ofQuote k (stringOf (allowedIn k) (offsetOf k) s) ≡ accepted kind e vs → Sound (valueBy k opening.Quoted s)
+      → ofQuote k (stringOf k (offsetOf k) s) ≡ accepted kind e vs → Sound (valueBy k opening.Quoted s)
   unfolding stringOf
   quoted-sound is inside g =
-      let a : Allowed = allowedIn k in
       let o : ℕ = offsetOf k in
       let d : List ℕ = drop o s in
-      let b : Body = body a d in
+      let b : Body = body k d in
       let t = ended notRaw (o + b .at) (length (b .value)) (b .end) g in
-      let c = content.sound a d (t .closes) in
+      let c = content.sound k d (t .closes) in
       let room : b .at < length d = quote-there d (b .at) (c .1) in
       let suf : List ℕ = drop (suc (b .at)) d in
       let split : d ≡ take (b .at) d ++ (34 ∷ suf) = rw (c .1) at (split-at d (b .at) 0 room) in
@@ -123,18 +121,17 @@ module _ (k : Kind) (s : List ℕ) (kind e : ℕ) (vs : Values) where
   -- ---- raw
 
   raw-ended : (h : ℕ) → h ≡ hashesAt s (offsetOf k) → s ≡ letterOf k ++ (114 ∷ drop (offsetOf k) s) → offsetOf k + h + 1 ≤ length s
-      → h ≤ 255 → getD s (offsetOf k + h) 0 ≡ 34 → let b = rawBody (allowedIn k) h (drop (offsetOf k + h + 1) s) in
+      → h ≤ 255 → getD s (offsetOf k + h) 0 ≡ 34 → let b = rawBody k h (drop (offsetOf k + h + 1) s) in
       ofQuote k (afterEnd s (raw h) (offsetOf k + h + 1 + b .at) (length (b .value)) (b .end)) ≡ accepted kind e vs → Sound (b .value)
   raw-ended h count is inside few quote g =
-      let a : Allowed = allowedIn k in
       let o : ℕ = offsetOf k in
       let d : List ℕ = drop (o + h + 1) s in
-      let b : Body = rawBody a h d in
+      let b : Body = rawBody k h d in
       let v : List ℕ = b .value in
       let t = ended (raw h) (o + h + 1 + b .at) (length v) (b .end) g in
-      let slice : v ≡ take (b .at) d = raw-value a h d in
+      let slice : v ≡ take (b .at) d = raw-value k h d in
       let read : b ≡ record { at = b .at; value = take (b .at) d; end = close } = rw (← slice, ← t .closes) in
-      let c : RawContent a h d (b .at) = raw-exact a h d (b .at) .0 read in
+      let c : RawContent k h d (b .at) = raw-exact k h d (b .at) .0 read in
       let room : b .at < length d = quote-there d (b .at) (c .closes .0) in
       let count-v : length v ≡ b .at = rw slice (length-take-le (b .at) d (omega arith)) in
       let rest : List ℕ = drop (suc (b .at)) d in
@@ -156,18 +153,18 @@ module _ (k : Kind) (s : List ℕ) (kind e : ℕ) (vs : Values) where
             (record {
               text = is ∙ ap (λ (l : List ℕ). letterOf k ++ (114 ∷ l)) (front ∙ ap (λ (l : List ℕ). hashes h ++ (34 ∷ l)) whole);
               few = few;
-              bytes = subst (λ (x : List ℕ). RawContent a h x (length v)) whole (rw count-v c);
+              bytes = subst (λ (x : List ℕ). RawContent k h x (length v)) whole (rw count-v c);
               suffix = ap suffixFault (sym same) ∙ t .suffix;
             })
             (omega (arith, t .start, c .closes .1, run-le (only 35) rest)) (t .values),
       )
 
   raw-sound : s ≡ letterOf k ++ (114 ∷ drop (offsetOf k) s) → offsetOf k ≤ length s
-      → ofQuote k (rawOf (allowedIn k) (offsetOf k) s) ≡ accepted kind e vs → Sound (valueBy k opening.Raw s)
+      → ofQuote k (rawOf k (offsetOf k) s) ≡ accepted kind e vs → Sound (valueBy k opening.Raw s)
   unfolding rawOf rawAt rawFrom
   raw-sound is inside =
       let h : ℕ = hashesAt s (offsetOf k) in
-      let b : Body = rawBody (allowedIn k) h (drop (offsetOf k + h + 1) s) in
+      let b : Body = rawBody k h (drop (offsetOf k + h + 1) s) in
       let P : Quote → Type 0 = λ q. ofQuote k q ≡ accepted kind e vs → Sound (b .value) in
       let fits : offsetOf k + h ≤ length s = omega (arith, run-le (only 35) (drop (offsetOf k) s), length-drop (offsetOf k) s) in
       cond-eq P (offsetOf k + h) (length s) (λ f g. absurd (let z : _≡_ {A = ℕ} 0 1 = cc in omega arith)) λ f.
@@ -175,7 +172,7 @@ module _ (k : Kind) (s : List ℕ) (kind e : ℕ) (vs : Values) where
       cond-eq P (getD s (offsetOf k + h) 0) 34 (raw-ended h refl is (omega arith) few)
       (λ q g. absurd (let z : _≡_ {A = ℕ} 0 1 = cc in omega arith))
 
-  no-start : (k : Kind) → startFault k ≡ accepted kind e vs → ⊥
+  no-start : (k : Allowed) → startFault k ≡ accepted kind e vs → ⊥
   no-start Text g = let z : _≡_ {A = ℕ} 0 1 = cc in omega arith
   no-start Bytes g = let z : _≡_ {A = ℕ} 0 1 = cc in omega arith
   no-start C g = let z : _≡_ {A = ℕ} 0 1 = cc in omega arith
@@ -187,7 +184,7 @@ module _ (k : Kind) (s : List ℕ) (kind e : ℕ) (vs : Values) where
   by-opening opening.Neither is l g = absurd (no-start k g)
 
 -- THE LAW: what is accepted is made up of its parts, for every byte list.
-pub sound : (k : Kind) (s : List ℕ) {kind e : ℕ} {vs : Values} → stringRead k s ≡ accepted kind e vs
+pub sound : (k : Allowed) (s : List ℕ) {kind e : ℕ} {vs : Values} → stringRead k s ≡ accepted kind e vs
     → (kind ≡ kindOf k) × Tiled k s (stringValue k s) e vs
 unfolding stringRead stringValue
 sound k [] g = absurd (let z : _≡_ {A = ℕ} 0 1 = cc in omega arith)

@@ -1,4 +1,4 @@
--- What decoding answers, and what the lent buffer holds then (01, Quoted kinds: "Decoded bytes of kinds 5, 7, 8 go to a lent buffer
+-- What decoding returns, and what the lent buffer holds then (01, Quoted kinds: "Decoded bytes of kinds 5, 7, 8 go to a lent buffer
 -- (..; 48 exactly when it is shorter than the value); bytes past the value keep what they held").
 -- Assumes nothing.
 use Prim.Native.Nat.{ℕ}
@@ -6,19 +6,23 @@ use mathlib.Core.Bool.{cond}
 use mathlib.Core.List.{List}
 use lib.Dec.{leb}
 use lib.ListN.{length}
-use Rattle.err.specs.Outcome.{Place, Outcome, refused, accepted, none}
+use Rattle.err.specs.Outcome.{Outcome, refused, accepted, none}
+use Rattle.err.specs.Answer.{Answer}
+pub use Rattle.err.specs.Answer.{given, withheld}
 use Rattle.err.specs.Numbers.{numberOf}
 use Rattle.err.specs.Reading.{placeOf}
 use Rattle.buffer.specs.Buffer.{over}
+use Rattle.escape.specs.declared.Allowed.{Allowed}
 use Rattle.string.specs.String.{stringRead, stringValue}
-use Rattle.string.specs.declared.Kind.{Kind}
 use Rattle.string.specs.declared.Decoded.{Decoded}
 use Rattle.string.specs.declared.Decoded.the-variants as answer
 
 -- how many bytes were written; or a refusal's number and span
-pub data Decode : Type 0 where
-  written : ℕ → Decode
-  withheld : ℕ → Place → Decode
+abbrev pub Decode : Type 0
+Decode = Answer ℕ
+
+abbrev pub written : ℕ → Decode
+written n = given n
 
 abbrev pub decodedOf : Decoded → Decode
 decodedOf (answer.Written n) = written n
@@ -33,7 +37,7 @@ ofReading (refused n p) v have = withheld n p
 ofReading (accepted kind e vs) v have = fitted v have
 
 -- the reading's own refusals come through
-unfoldable pub stringDecoded : Kind → List ℕ → ℕ → Decode
+unfoldable pub stringDecoded : Allowed → List ℕ → ℕ → Decode
 stringDecoded k s have = ofReading (stringRead k s) (stringValue k s) have
 
 abbrev pub bufferOf : Outcome → List ℕ → List ℕ → List ℕ
@@ -41,5 +45,5 @@ bufferOf (refused n p) v buf = buf
 bufferOf (accepted kind e vs) v buf = cond (leb (length v) (length buf)) (over v buf) buf
 
 -- the whole buffer at exit: the value, then what it held; refused: exactly as it came
-unfoldable pub bufferAfter : Kind → List ℕ → List ℕ → List ℕ
+unfoldable pub bufferAfter : Allowed → List ℕ → List ℕ → List ℕ
 bufferAfter k s buf = bufferOf (stringRead k s) (stringValue k s) buf

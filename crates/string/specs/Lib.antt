@@ -1,3 +1,4 @@
 pub mod String
 pub mod Decode
 pub mod Parts
+pub mod Inner

@@ -5,14 +5,13 @@ use mathlib.Core.Path.{_≡_}
 use mathlib.Core.List.{List, [], _∷_, _++_}
 use lib.ListN.{length}
 use Rattle.err.specs.Outcome.{Values, notRaw, raw, decoded}
+use Rattle.escape.specs.declared.Allowed.{Allowed}
+use Rattle.escape.specs.declared.Allowed.the-variants.{Text, Bytes, C}
 use Rattle.suffix.specs.Suffix.{suffixFault}
 use Rattle.body.specs.Pieces.{Content, RawContent}
-use Rattle.string.specs.String.{allowedIn}
-use Rattle.string.specs.declared.Kind.{Kind}
-use Rattle.string.specs.declared.Kind.the-variants.{Text, Bytes, C}
 
 -- the kind's letter: none, `b`, `c`
-abbrev pub letterOf : Kind → List ℕ
+abbrev pub letterOf : Allowed → List ℕ
 letterOf Text = []
 letterOf Bytes = 98 ∷ []
 letterOf C = 99 ∷ []
@@ -23,20 +22,20 @@ hashes zero = []
 hashes (suc h) = 35 ∷ hashes h
 
 -- letter, quote, what stands between the quotes and its value v, quote, a good suffix
-pub record QuotedParts (k : Kind) (s content v suf : List ℕ) : Type 0 where
+pub record QuotedParts (k : Allowed) (s content v suf : List ℕ) : Type 0 where
   pub text : s ≡ letterOf k ++ (34 ∷ (content ++ (34 ∷ suf)))
-  pub pieces : Content (allowedIn k) content v
+  pub pieces : Content k content v
   pub suffix : suffixFault suf ≡ 0
 
 -- letter, `r`, at most 255 hashes, quote, the bytes v, which stand for themselves, the first quote that as many hashes follow, those
 -- hashes, a good suffix
-pub record RawParts (k : Kind) (s v suf : List ℕ) (h : ℕ) : Type 0 where
+pub record RawParts (k : Allowed) (s v suf : List ℕ) (h : ℕ) : Type 0 where
   pub text : s ≡ letterOf k ++ (114 ∷ (hashes h ++ (34 ∷ (v ++ (34 ∷ (hashes h ++ suf))))))
   pub few : h ≤ 255
-  pub bytes : RawContent (allowedIn k) h (v ++ (34 ∷ (hashes h ++ suf))) (length v)
+  pub bytes : RawContent k h (v ++ (34 ∷ (hashes h ++ suf))) (length v)
   pub suffix : suffixFault suf ≡ 0
 
 -- a reading with the suffix at e and the values vs, and the decoded bytes v, are those of the parts that make up the text
-pub data Tiled (k : Kind) (s v : List ℕ) (e : ℕ) (vs : Values) : Type 0 where
+pub data Tiled (k : Allowed) (s v : List ℕ) (e : ℕ) (vs : Values) : Type 0 where
   as-quoted : (content suf : List ℕ) → QuotedParts k s content v suf → e + length suf ≡ length s → vs ≡ decoded notRaw (length v) → Tiled k s v e vs
   as-raw : (suf : List ℕ) (h : ℕ) → RawParts k s v suf h → e + length suf ≡ length s → vs ≡ decoded (raw h) (length v) → Tiled k s v e vs

@@ -1,4 +1,4 @@
--- What litrs's `StringLit::parse`, `ByteStringLit::parse` and `CStringLit::parse` answer (01, Quoted kinds), in their order of tests.
+-- What litrs's `StringLit::parse`, `ByteStringLit::parse` and `CStringLit::parse` return (01, Quoted kinds), in their order of tests.
 -- Assumes nothing.
 use Prim.Native.Nat.{ℕ, _+_}
 use mathlib.Core.Bool.{cond}
@@ -6,69 +6,69 @@ use mathlib.Core.List.{List, [], _∷_}
 use lib.Dec.{eqb}
 use lib.ListN.{getD, drop}
 use Rattle.err.specs.Outcome.{Outcome, refused, accepted, none, between, decoded}
+use Rattle.err.specs.Numbers.{numberOf}
+use Rattle.err.specs.Reading.{placeOf}
 use Rattle.scan.specs.Run.{run}
 use Rattle.scan.specs.Sets.{only}
 use Rattle.escape.specs.declared.Allowed.{Allowed}
-use Rattle.escape.specs.declared.Allowed.the-variants as allowed
+use Rattle.escape.specs.declared.Allowed.the-variants.{Text, Bytes, C}
 use Rattle.body.specs.Body.{body, rawBody}
 use Rattle.body.specs.Quote.{Quote, quoteOf, stringOf, rawOf}
 use Rattle.body.specs.Quote as quote
 use Rattle.body.specs.declared.Quoted.{Quoted}
-use Rattle.string.specs.declared.Kind.{Kind}
-use Rattle.string.specs.declared.Kind.the-variants.{Text, Bytes, C}
+use Rattle.body.specs.declared.Quoted.the-variants as quoted
 use Rattle.string.specs.declared.Opening.{Opening}
 use Rattle.string.specs.declared.Opening.the-variants as opening
 
 -- 01: string is kind 5, byte string 7, C string 8
-abbrev pub kindOf : Kind → ℕ
+abbrev pub kindOf : Allowed → ℕ
 kindOf Text = 5
 kindOf Bytes = 7
 kindOf C = 8
 
--- where the body or the hashes start: behind `"` or `r`, behind `b"` or `br`, behind `c"` or `cr`
-abbrev pub offsetOf : Kind → ℕ
+-- where the body or the hashes start: after `"` or `r`, after `b"` or `br`, after `c"` or `cr`
+abbrev pub offsetOf : Allowed → ℕ
 offsetOf Text = 1
 offsetOf Bytes = 2
 offsetOf C = 2
-
--- the arguments that litrs gives `unescape_string` and `scan_raw_string`: a byte string has no Unicode, a C string no NUL
-abbrev pub allowedIn : Kind → Allowed
-allowedIn Text = allowed.Text
-allowedIn Bytes = allowed.Bytes
-allowedIn C = allowed.C
 
 -- `"` or `r`
 unfoldable pub openingBy : ℕ → Opening
 openingBy b = cond (eqb b 34) opening.Quoted (cond (eqb b 114) opening.Raw opening.Neither)
 
 -- the kind's letter, if it has one, and `"` or `r`
-abbrev pub openingAt : Kind → List ℕ → Opening
+abbrev pub openingAt : Allowed → List ℕ → Opening
 openingAt Text s = openingBy (getD s 0 0)
 openingAt Bytes s = cond (eqb (getD s 0 0) 98) (openingBy (getD s 1 0)) opening.Neither
 openingAt C s = cond (eqb (getD s 0 0) 99) (openingBy (getD s 1 0)) opening.Neither
 
 -- another start: 31 at 0-1, 33, 34
-abbrev pub startFault : Kind → Outcome
+abbrev pub startFault : Allowed → Outcome
 startFault Text = refused 31 (between 0 1)
 startFault Bytes = refused 33 none
 startFault C = refused 34 none
 
--- the answer of a body as one of the kind
-abbrev pub ofQuote : Kind → Quote → Outcome
+-- what is read of a body, as one of the kind
+abbrev pub ofQuote : Allowed → Quote → Outcome
 ofQuote k (quote.quoted r start len) = accepted (kindOf k) start (decoded r len)
 ofQuote k (quote.refused n p) = refused n p
 
 -- document 01's numbers and values for each case
-abbrev pub parsedOf : Kind → Quoted → Outcome
+abbrev pub parsedOf : Allowed → Quoted → Outcome
 parsedOf k q = ofQuote k (quoteOf q)
 
-abbrev pub readBy : Kind → Opening → List ℕ → Outcome
-readBy k opening.Quoted s = ofQuote k (stringOf (allowedIn k) (offsetOf k) s)
-readBy k opening.Raw s = ofQuote k (rawOf (allowedIn k) (offsetOf k) s)
+-- the refusal of a refused answer; a literal has none, and 3 without a span stands for it
+abbrev pub refusalOf : Quoted → Outcome
+refusalOf (quoted.Lit l) = refused 3 none
+refusalOf (quoted.Refused n p) = refused (numberOf n) (placeOf p)
+
+abbrev pub readBy : Allowed → Opening → List ℕ → Outcome
+readBy k opening.Quoted s = ofQuote k (stringOf k (offsetOf k) s)
+readBy k opening.Raw s = ofQuote k (rawOf k (offsetOf k) s)
 readBy k opening.Neither s = startFault k
 
 -- of any text: no bytes are 1
-unfoldable pub stringRead : Kind → List ℕ → Outcome
+unfoldable pub stringRead : Allowed → List ℕ → Outcome
 stringRead k [] = refused 1 none
 stringRead k (b ∷ s) = readBy k (openingAt k (b ∷ s)) (b ∷ s)
 
@@ -78,11 +78,11 @@ stringRead k (b ∷ s) = readBy k (openingAt k (b ∷ s)) (b ∷ s)
 abbrev pub hashesAt : List ℕ → ℕ → ℕ
 hashesAt s at = run (only 35) (drop at s)
 
-abbrev pub valueBy : Kind → Opening → List ℕ → List ℕ
-valueBy k opening.Quoted s = body (allowedIn k) (drop (offsetOf k) s) .value
-valueBy k opening.Raw s = rawBody (allowedIn k) (hashesAt s (offsetOf k)) (drop (offsetOf k + hashesAt s (offsetOf k) + 1) s) .value
+abbrev pub valueBy : Allowed → Opening → List ℕ → List ℕ
+valueBy k opening.Quoted s = body k (drop (offsetOf k) s) .value
+valueBy k opening.Raw s = rawBody k (hashesAt s (offsetOf k)) (drop (offsetOf k + hashesAt s (offsetOf k) + 1) s) .value
 valueBy k opening.Neither s = []
 
 -- the decoded bytes of an accepted text. 01: "A C value has no closing zero byte."
-unfoldable pub stringValue : Kind → List ℕ → List ℕ
+unfoldable pub stringValue : Allowed → List ℕ → List ℕ
 stringValue k s = valueBy k (openingAt k s) s

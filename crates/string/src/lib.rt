@@ -1,4 +1,4 @@
-// String, byte string and C string literals: their readings, and their decoded bytes.
+// String, byte string and C string literals, told apart by what they allow (`escape::Allowed`): their readings, and their decoded bytes.
 use body::Quoted;
 use err::Hashes;
 use err::ParseErrorKind;
@@ -11,64 +11,46 @@ ghost use Prim.Native.Nat.{_≤_, _<_};
 ghost use lib.ListN.{length};
 ghost use Rattle.err.specs.Reading.{outcomeOf};
 ghost use Rattle.buffer.specs.Buffer.{Wrote};
-ghost use Rattle.string.specs.String.{offsetOf, allowedIn, openingBy, openingAt, startFault, parsedOf, stringRead, stringValue};
+ghost use Rattle.string.specs.String.{offsetOf, openingBy, openingAt, startFault, parsedOf, refusalOf, stringRead, stringValue};
+ghost use Rattle.string.specs.Inner.{innerOf};
 ghost use Rattle.string.specs.Decode.{decodedOf, stringDecoded, bufferAfter};
 
-// Which of the three kinds.
-pub enum Kind {
-    Text,
-    Bytes,
-    C,
+// Where the body or the hashes start: after `"` or `r`, and the kind's letter.
+pub fn offset(k: Allowed) -> usize
+    ensures { λ r. ⌜ r ≡ offsetOf k ⌝ }
+{
+    match k {
+        Allowed::Text => 1,
+        Allowed::Bytes => 2,
+        Allowed::C => 2,
+    }
 }
 
-impl Kind {
-    // Where the body or the hashes start: behind `"` or `r`, and the kind's letter.
-    pub fn offset(self) -> usize
-        ensures { λ r. ⌜ r ≡ offsetOf self ⌝ }
-    {
-        match self {
-            Kind::Text => 1,
-            Kind::Bytes => 2,
-            Kind::C => 2,
-        }
+// What another start is refused with.
+fn refused_start(k: Allowed) -> Quoted
+    ensures { λ r. ⌜ parsedOf k r ≡ startFault k ⌝ }
+{
+    match k {
+        Allowed::Text => Quoted::Refused(
+            ParseErrorKind::InvalidStringLiteralStart,
+            Span::Between(0, 1),
+        ),
+        Allowed::Bytes => Quoted::Refused(
+            ParseErrorKind::InvalidByteStringLiteralStart,
+            Span::Nowhere,
+        ),
+        Allowed::C => Quoted::Refused(ParseErrorKind::InvalidCStringLiteralStart, Span::Nowhere),
     }
+}
 
-    pub fn allowed(self) -> Allowed
-        ensures { λ r. ⌜ r ≡ allowedIn self ⌝ }
-    {
-        match self {
-            Kind::Text => Allowed::Text,
-            Kind::Bytes => Allowed::Bytes,
-            Kind::C => Allowed::C,
-        }
-    }
-
-    // What another start is refused with.
-    fn refused_start(self) -> Quoted
-        ensures { λ r. ⌜ parsedOf self r ≡ startFault self ⌝ }
-    {
-        match self {
-            Kind::Text => Quoted::Refused(
-                ParseErrorKind::InvalidStringLiteralStart,
-                Span::Between(0, 1),
-            ),
-            Kind::Bytes => Quoted::Refused(
-                ParseErrorKind::InvalidByteStringLiteralStart,
-                Span::Nowhere,
-            ),
-            Kind::C => Quoted::Refused(ParseErrorKind::InvalidCStringLiteralStart, Span::Nowhere),
-        }
-    }
-
-    // The reading of a literal of the kind.
-    fn reading(self, lit: StringLit) -> Reading
-        ensures { λ r. ⌜ outcomeOf r ≡ parsedOf self (Quoted.Lit lit) ⌝ }
-    {
-        match self {
-            Kind::Text => Reading::String(lit),
-            Kind::Bytes => Reading::ByteString(lit),
-            Kind::C => Reading::CString(lit),
-        }
+// The reading of a literal of the kind.
+fn reading(k: Allowed, lit: StringLit) -> Reading
+    ensures { λ r. ⌜ outcomeOf r ≡ parsedOf k (Quoted.Lit lit) ⌝ }
+{
+    match k {
+        Allowed::Text => Reading::String(lit),
+        Allowed::Bytes => Reading::ByteString(lit),
+        Allowed::C => Reading::CString(lit),
     }
 }
 
@@ -80,18 +62,18 @@ pub enum Opening {
 }
 
 // The byte before the offset, where the kind's letter stands before that.
-fn opening_of(text: &[u8], k: Kind) -> Opening
+fn opening_of(text: &[u8], k: Allowed) -> Opening
     ensures { λ r. ⌜ r ≡ openingAt k (now (text .entry)) ⌝ }
 {
     match k {
-        Kind::Text => quote_or_r(scan::byte_at(text, 0)),
-        Kind::Bytes => {
+        Allowed::Text => quote_or_r(scan::byte_at(text, 0)),
+        Allowed::Bytes => {
             if scan::byte_at(text, 0) != b'b' {
                 return Opening::Neither;
             }
             quote_or_r(scan::byte_at(text, 1))
         }
-        Kind::C => {
+        Allowed::C => {
             if scan::byte_at(text, 0) != b'c' {
                 return Opening::Neither;
             }
@@ -111,7 +93,7 @@ fn quote_or_r(b: u8) -> Opening
 }
 
 // The literal that a text is, or why it is none.
-fn parse_lit(text: &[u8], k: Kind) -> Quoted
+fn parse_lit(text: &[u8], k: Allowed) -> Quoted
     requires { ⌜ length (now text) < 4294967296 ⌝ }
     ensures { λ r. ⌜ parsedOf k r ≡ stringRead k (now (text .entry)) ⌝ }
 {
@@ -120,21 +102,31 @@ fn parse_lit(text: &[u8], k: Kind) -> Quoted
     }
     let start = opening_of(text, k);
     match start {
-        Opening::Quoted => body::unescape_string(text, k.offset(), k.allowed()),
-        Opening::Raw => raw::scan_raw_string(text, k.offset(), k.allowed()),
-        Opening::Neither => k.refused_start(),
+        Opening::Quoted => body::unescape_string(text, offset(k), k),
+        Opening::Raw => raw::scan_raw_string(text, offset(k), k),
+        Opening::Neither => refused_start(k),
     }
 }
 
-pub fn parse(text: &[u8], k: Kind) -> Reading
+// The refusal as a reading. A literal has none; 3 stands for it, and no caller hands one in.
+fn refusal(lit: Quoted) -> Reading
+    ensures { λ r. ⌜ outcomeOf r ≡ refusalOf lit ⌝ }
+{
+    match lit {
+        Quoted::Lit(_) => err::perr_nowhere(ParseErrorKind::InvalidLiteral),
+        Quoted::Refused(kind, span) => Reading::Refused(kind, span),
+    }
+}
+
+pub fn parse(text: &[u8], k: Allowed) -> Reading
     requires { ⌜ length (now text) < 4294967296 ⌝ }
     ensures { λ r. ⌜ outcomeOf r ≡ stringRead k (now (text .entry)) ⌝ }
 {
     let lit = parse_lit(text, k);
-    match lit {
-        Quoted::Lit(l) => k.reading(l),
-        Quoted::Refused(kind, span) => Reading::Refused(kind, span),
-    }
+    let Quoted::Lit(l) = lit else {
+        return refusal(lit);
+    };
+    reading(k, l)
 }
 
 // How many bytes were written, or why none were.
@@ -143,37 +135,49 @@ pub enum Decoded {
     Refused(ParseErrorKind, Span),
 }
 
-// The value of a literal that was read from the text, written to the front of out. It stands in the text as it is where it has as many
-// bytes as the body.
-fn put_value(out: &mut [u8], text: &[u8], k: Kind, lit: StringLit) -> usize
-    requires { ⌜ ((length (now text) < 4294967296) × (parsedOf k (Quoted.Lit lit) ≡ stringRead k (now text))) × (lit .«value_len» ≤ length (now out)) ⌝ }
-    ensures { λ r. ⌜ Wrote (stringValue k (now (text .entry))) r (now (out .entry)) (now (out .exit)) ⌝ }
+// Where a literal's value stands in its text: as it is, from one offset to another; or as a quoted body with escapes, from an offset.
+pub enum Inner {
+    AsItIs(usize, usize),
+    Escaped(usize),
+}
+
+// litrs's `inner_range`. A quoted body is the value where it has as many bytes.
+pub fn inner_range(k: Allowed, lit: StringLit) -> Inner
+    requires { ⌜ lit .«value_len» < 4294967296 ⌝ }
+    ensures { λ r. ⌜ r ≡ innerOf k lit ⌝ }
 {
-    let from = k.offset();
-    let hashes = lit.hashes;
+    let from = offset(k);
     let n = lit.value_len;
+    let hashes = lit.hashes;
     match hashes {
         Hashes::NotRaw => {
             let end = from + n;
             if end + 1 == lit.start_suffix {
-                return buffer::put_bytes(out, &text[from..end]);
+                return Inner::AsItIs(from, end);
             }
-            // dropped line breaks only
-            if n == 0 {
-                return 0;
-            }
-            body_value::write_value(out, &text[from..], k.allowed())
+            Inner::Escaped(from)
         }
         Hashes::Raw(h) => {
             let start = from + h as usize + 1;
-            let end = start + n;
-            buffer::put_bytes(out, &text[start..end])
+            Inner::AsItIs(start, start + n)
         }
     }
 }
 
+// The value of a literal that was read from the text, written to the front of out.
+fn put_value(out: &mut [u8], text: &[u8], k: Allowed, lit: StringLit) -> usize
+    requires { ⌜ ((length (now text) < 4294967296) × (parsedOf k (Quoted.Lit lit) ≡ stringRead k (now text))) × (lit .«value_len» ≤ length (now out)) ⌝ }
+    ensures { λ r. ⌜ Wrote (stringValue k (now (text .entry))) r (now (out .entry)) (now (out .exit)) ⌝ }
+{
+    let inner = inner_range(k, lit);
+    match inner {
+        Inner::AsItIs(start, end) => buffer::put_bytes(out, &text[start..end]),
+        Inner::Escaped(start) => body_value::write_value(out, &text[start..], k),
+    }
+}
+
 // The decoded bytes of a literal that was read from the text: they are counted, so that a refusal leaves every byte of out as it came.
-pub fn decode(text: &[u8], k: Kind, lit: StringLit, out: &mut [u8]) -> Decoded
+pub fn decode(text: &[u8], k: Allowed, lit: StringLit, out: &mut [u8]) -> Decoded
     requires { ⌜ (length (now text) < 4294967296) × (parsedOf k (Quoted.Lit lit) ≡ stringRead k (now text)) ⌝ }
     ensures { λ r. ⌜ decodedOf r ≡ stringDecoded k (now (text .entry)) (length (now (out .entry))) ⌝ }
     ensures { λ r. ⌜ now (out .exit) ≡ bufferAfter k (now (text .entry)) (now (out .entry)) ⌝ }

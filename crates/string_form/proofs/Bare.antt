@@ -7,37 +7,31 @@ use native.Mathlib.Omega.{arith}
 use lib.ListN.{length, length-append}
 use Rattle.err.specs.declared.StringLit.{StringLit}
 use Rattle.utf8.specs.Utf8.{Utf8}
+use Rattle.escape.specs.declared.Allowed.{Allowed}
+use Rattle.escape.specs.declared.Allowed.the-variants.{Text, Bytes, C}
 use Rattle.form.specs.Form.{bareForm}
 use Rattle.body.specs.declared.Quoted.the-variants as answer
 use Rattle.quoting.specs.Styled.{styledForms}
 use Rattle.quoting.proofs.Styles.{text-style, bytes-style}
 use Rattle.string.specs.String.{parsedOf, stringRead, stringValue}
-use Rattle.string.specs.declared.Kind.{Kind}
-use Rattle.string.specs.declared.Kind.the-variants.{Text, Bytes, C}
 use Rattle.string.proofs.Values.{value-utf8}
 use Rattle.string_form.specs.Strings.{worthIn, openingOf, wideIn}
 
--- the suffix does not matter
-pub bare-any : (k : Kind) (v x : List ℕ) → bareForm (worthIn k v) x ≡ bareForm (worthIn k v) []
-bare-any Text v x = refl
-bare-any Bytes v x = refl
-bare-any C v x = refl
-
 -- the value's forms in a style are the form's
-pub bare : (k : Kind) (v : List ℕ) → (k ≡ Text → Utf8 v)
+pub bare : (k : Allowed) (v : List ℕ) → (k ≡ Text → Utf8 v)
     → bareForm (worthIn k v) [] ≡ openingOf k ++ (styledForms (wideIn k) 34 v ++ (34 ∷ []))
 bare Text v u = rw (text-style v (u refl)) refl
 bare Bytes v u = rw (bytes-style 34 v) refl
 bare C v u = rw (bytes-style 34 v) refl
 
-pub opening-short : (k : Kind) → length (openingOf k) ≤ 2
+pub opening-short : (k : Allowed) → length (openingOf k) ≤ 2
 opening-short Text = omega arith
 opening-short Bytes = omega arith
 opening-short C = omega arith
 
 -- of a literal that was read from a UTF-8 text
-module _ (k : Kind) (s : List ℕ) (lit : StringLit) (u : Utf8 s) (is : parsedOf k (answer.Lit lit) ≡ stringRead k s) where
-  value-text : (k : Kind) → parsedOf k (answer.Lit lit) ≡ stringRead k s → k ≡ Text → Utf8 (stringValue k s)
+module _ (k : Allowed) (s : List ℕ) (lit : StringLit) (u : Utf8 s) (is : parsedOf k (answer.Lit lit) ≡ stringRead k s) where
+  value-text : (k : Allowed) → parsedOf k (answer.Lit lit) ≡ stringRead k s → k ≡ Text → Utf8 (stringValue k s)
   value-text Text e g = value-utf8 s u (sym e)
   value-text Bytes e g = absurd (let z : _≡_ {A = ℕ} 0 1 = cc in omega arith)
   value-text C e g = absurd (let z : _≡_ {A = ℕ} 0 1 = cc in omega arith)

@@ -1,11 +1,10 @@
 -- The bytes of a suffix by comparisons: the first, and those behind it.
 -- Assumes nothing.
 use mathlib.Core.Path.{_≡_}
-use mathlib.Core.Bool.{true, false, cond, not, _||_, or-true, or-false}
+use mathlib.Core.Bool.{true, false, not, _||_, or-true, or-false}
 use Prim.Native.Nat.{ℕ, _≤_}
-use native.Mathlib.Omega.{arith}
 use lib.Dec.{leb, eqb}
-use borrow.Author.Tests.{le-leb, lt-leb, not-true}
+use borrow.Author.Tests.{le-leb, not-true}
 use Rattle.parse.specs.Class.{classOf, within}
 use Rattle.parse.specs.Sets.{digit, suffixRest, decDigit}
 use Rattle.parse.proofs.Classes.{both, class-above, everywhere, digit-ten}
@@ -24,13 +23,6 @@ start-is =
 pub rest-is : (b : ℕ) → suffixRest b ≡ (suffixStart b || decDigit b)
 unfolding suffixStart suffixRest decDigit classOf
 rest-is = everywhere suffixRest (λ b. suffixStart b || decDigit b) tt (λ b h. rw (class-above b h))
-
--- up to `9` a digit, and above it what starts one
-pub rest-by : (b : ℕ) → suffixRest b ≡ cond (leb b 57) (leb 48 b) (suffixStart b)
-unfolding suffixStart suffixRest classOf
-rest-by =
-    everywhere suffixRest (λ b. cond (leb b 57) (leb 48 b) (suffixStart b)) tt
-    (λ b h. rw (class-above b h, lt-leb b 57 (omega arith)))
 
 pub start-not-decimal : (b : ℕ) → suffixStart b ≡ true → decDigit b ≡ false
 unfolding suffixStart decDigit

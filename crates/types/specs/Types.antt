@@ -16,35 +16,31 @@ use Rattle.types.specs.declared.FloatType.the-variants.{F32, F64}
 use Rattle.types.specs.declared.FloatFound.{FloatFound}
 use Rattle.types.specs.declared.FloatFound.the-variants as float
 
--- `u8`, `u16`, `u32`, `u64`, `u128`, `usize`
-unfoldable pub unsignedNamed : List ℕ → IntegerFound
-unsignedNamed s =
-    cond (same s (117 ∷ 56 ∷ [])) (integer.Type U8)
-    (cond (same s (117 ∷ 49 ∷ 54 ∷ [])) (integer.Type U16)
-    (cond (same s (117 ∷ 51 ∷ 50 ∷ [])) (integer.Type U32)
-    (cond (same s (117 ∷ 54 ∷ 52 ∷ [])) (integer.Type U64)
-    (cond (same s (117 ∷ 49 ∷ 50 ∷ 56 ∷ [])) (integer.Type U128)
-    (cond (same s (117 ∷ 115 ∷ 105 ∷ 122 ∷ 101 ∷ [])) (integer.Type Usize)
-    integer.Nothing)))))
+-- the type that a name has in a list of names, the first where there are several
+unfoldable pub namedIn : List (List ℕ × IntegerType) → List ℕ → IntegerFound
+namedIn [] s = integer.Nothing
+namedIn ((name, t) ∷ more) s = cond (same s name) (integer.Type t) (namedIn more s)
 
--- `i8`, `i16`, `i32`, `i64`, `i128`, `isize`
-unfoldable pub signedNamed : List ℕ → IntegerFound
-signedNamed s =
-    cond (same s (105 ∷ 56 ∷ [])) (integer.Type I8)
-    (cond (same s (105 ∷ 49 ∷ 54 ∷ [])) (integer.Type I16)
-    (cond (same s (105 ∷ 51 ∷ 50 ∷ [])) (integer.Type I32)
-    (cond (same s (105 ∷ 54 ∷ 52 ∷ [])) (integer.Type I64)
-    (cond (same s (105 ∷ 49 ∷ 50 ∷ 56 ∷ [])) (integer.Type I128)
-    (cond (same s (105 ∷ 115 ∷ 105 ∷ 122 ∷ 101 ∷ [])) (integer.Type Isize)
-    integer.Nothing)))))
+-- 01, Type codes: the names `u8`, `u16`, `u32`, `u64`, `u128`, `usize`, `i8`, `i16`, `i32`, `i64`, `i128`, `isize`
+abbrev pub integerNames : List (List ℕ × IntegerType)
+integerNames =
+    (117 ∷ 56 ∷ [], U8) ∷
+    (117 ∷ 49 ∷ 54 ∷ [], U16) ∷
+    (117 ∷ 51 ∷ 50 ∷ [], U32) ∷
+    (117 ∷ 54 ∷ 52 ∷ [], U64) ∷
+    (117 ∷ 49 ∷ 50 ∷ 56 ∷ [], U128) ∷
+    (117 ∷ 115 ∷ 105 ∷ 122 ∷ 101 ∷ [], Usize) ∷
+    (105 ∷ 56 ∷ [], I8) ∷
+    (105 ∷ 49 ∷ 54 ∷ [], I16) ∷
+    (105 ∷ 51 ∷ 50 ∷ [], I32) ∷
+    (105 ∷ 54 ∷ 52 ∷ [], I64) ∷
+    (105 ∷ 49 ∷ 50 ∷ 56 ∷ [], I128) ∷
+    (105 ∷ 115 ∷ 105 ∷ 122 ∷ 101 ∷ [], Isize) ∷
+    []
 
-abbrev pub orElse : IntegerFound → IntegerFound → IntegerFound
-orElse (integer.Type t) other = integer.Type t
-orElse integer.Nothing other = other
-
--- no name of an unsigned type is one of a signed type
+-- "each answers 0 to every other name": here none
 unfoldable pub integerNamed : List ℕ → IntegerFound
-integerNamed s = orElse (unsignedNamed s) (signedNamed s)
+integerNamed s = namedIn integerNames s
 
 -- the type of a code
 unfoldable pub integerCoded : ℕ → IntegerFound

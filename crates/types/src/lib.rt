@@ -1,6 +1,6 @@
 // The types that a suffix can name: their names, their codes, and the largest values of those that have values here.
 ghost use mathlib.Core.Path.{_≡_};
-ghost use Rattle.types.specs.Types.{integerNamed, unsignedNamed, signedNamed, integerCoded, integerCode, largestOf, floatNamed, floatCode};
+ghost use Rattle.types.specs.Types.{integerNamed, integerCoded, integerCode, largestOf, floatNamed, floatCode};
 
 pub enum IntegerType {
     U8,
@@ -46,9 +46,10 @@ impl IntegerType {
 
     pub const I64_MAX: u64 = 0x7FFF_FFFF_FFFF_FFFF;
 
-    // The unsigned type that a suffix names.
-    fn unsigned_from_suffix(suffix: &[u8]) -> IntegerFound
-        ensures { λ r. ⌜ r ≡ unsignedNamed (now (suffix .entry)) ⌝ }
+    // The type that a suffix names: litrs's `IntegerType::from_suffix`.
+    pub fn from_suffix(suffix: &[u8]) -> IntegerFound
+        ensures { λ r. ⌜ r ≡ integerNamed (now (suffix .entry)) ⌝ }
+        ensures { λ r. ⌜ now (suffix .exit) ≡ now (suffix .entry) ⌝ }
     {
         if scan::is_same(suffix, b"u8") {
             return IntegerFound::Type(IntegerType::U8);
@@ -68,13 +69,6 @@ impl IntegerType {
         if scan::is_same(suffix, b"usize") {
             return IntegerFound::Type(IntegerType::Usize);
         }
-        IntegerFound::Nothing
-    }
-
-    // The signed type that a suffix names.
-    fn signed_from_suffix(suffix: &[u8]) -> IntegerFound
-        ensures { λ r. ⌜ r ≡ signedNamed (now (suffix .entry)) ⌝ }
-    {
         if scan::is_same(suffix, b"i8") {
             return IntegerFound::Type(IntegerType::I8);
         }
@@ -94,18 +88,6 @@ impl IntegerType {
             return IntegerFound::Type(IntegerType::Isize);
         }
         IntegerFound::Nothing
-    }
-
-    // The type that a suffix names.
-    pub fn from_suffix(suffix: &[u8]) -> IntegerFound
-        ensures { λ r. ⌜ r ≡ integerNamed (now (suffix .entry)) ⌝ }
-        ensures { λ r. ⌜ now (suffix .exit) ≡ now (suffix .entry) ⌝ }
-    {
-        let unsigned = IntegerType::unsigned_from_suffix(suffix);
-        let IntegerFound::Nothing = unsigned else {
-            return unsigned;
-        };
-        IntegerType::signed_from_suffix(suffix)
     }
 
     // The type that a code stands for.

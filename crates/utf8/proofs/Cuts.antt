@@ -15,8 +15,7 @@ use Rattle.scan.proofs.Cases.{cond-in, by-lt}
 use Rattle.scan.proofs.Runs.{run-short}
 use Rattle.utf8.specs.Utf8.{Utf8, Boundary, LastChar}
 use Rattle.utf8.specs.Cut.{tail, isBoundary, lastLen, front}
-use Rattle.utf8.proofs.Text.{Tails, shape, boundary-le, boundary-end, boundary-byte, boundary-at, boundary-take, utf8-nil, last-char}
-use Rattle.utf8.proofs.Valid.{last-cut}
+use Rattle.utf8.proofs.Text.{Tails, shape, boundary-le, boundary-end, boundary-byte, boundary-at, last-char}
 
 -- in a UTF-8 text the test holds at the boundaries and nowhere else
 pub boundary-right : (t : List ℕ) (n : ℕ) → Utf8 t → (isBoundary t n ≡ true) ↔ Boundary t n
@@ -115,11 +114,3 @@ last-right t u h = let c = last-char t u h in subst (λ (n : ℕ). LastChar t n)
 -- THE LAW: in a UTF-8 text that is not empty, the last character has n bytes exactly where `lastLen` says so
 pub last-exact : (t : List ℕ) (n : ℕ) → Utf8 t → 0 < length t → (lastLen t ≡ n) ↔ LastChar t n
 last-exact t n u h = (λ e. subst (λ (m : ℕ). LastChar t m) e (last-right t u h), last-is t n)
-
--- and cut off it leaves a UTF-8 text
-pub front-boundary : (t : List ℕ) → Utf8 t → 0 < length t → Boundary t (length t - lastLen t)
-front-boundary t u h = last-cut t (lastLen t) (last-right t u h)
-
-pub front-utf8 : (t : List ℕ) → Utf8 t → Utf8 (front t)
-front-utf8 [] u = utf8-nil
-front-utf8 (b ∷ t) u = boundary-take (b ∷ t) (length (b ∷ t) - lastLen (b ∷ t)) (front-boundary (b ∷ t) u (omega arith))

@@ -1,6 +1,5 @@
 pub mod First
 pub mod Laws
-pub mod Only
 pub mod Text
 pub mod At
 pub mod Valid

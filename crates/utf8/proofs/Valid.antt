@@ -7,16 +7,16 @@ use mathlib.Core.List.{List, [], _∷_}
 use Prim.Native.Nat.{ℕ, _<_, zero, suc, _+_, _-_, _≤_}
 use native.Mathlib.Omega.{arith}
 use native.Mathlib.Nat.{not-suc-le-zero}
-use lib.ListN.{drop-of-length-le, getD, length, drop, length-append, length-drop}
+use lib.ListN.{drop-of-length-le, getD, length, drop, length-drop}
 use Rattle.scan.proofs.Cases.{clash}
-use Rattle.utf8.specs.Utf8.{encode, Utf8, Boundary, LastChar}
+use Rattle.utf8.specs.Utf8.{Utf8}
 use Rattle.utf8.specs.Decode.{decode, lenOf}
 use Rattle.utf8.specs.Valid.{charsWithin, isUtf8}
 use Rattle.utf8.specs.declared.Decoded.{Decoded}
 use Rattle.utf8.specs.declared.Decoded.the-variants.{Char, Bad}
 use Rattle.utf8.proofs.Laws.{encode-length, Found, decode-found}
 use Rattle.utf8.proofs.At.{found-bounds, found-utf8, bad-utf8}
-use Rattle.utf8.proofs.Text.{utf8-front, utf8-nil, utf8-one, utf8-char, utf8-rest, utf8-bad}
+use Rattle.utf8.proofs.Text.{utf8-front, utf8-nil, utf8-char, utf8-rest, utf8-bad}
 
 within-right : (k : ℕ) (t : List ℕ) → length t ≤ k → (charsWithin k t ≡ true) ↔ Utf8 t
 unfolding charsWithin
@@ -80,8 +80,3 @@ module _ (t : List ℕ) (at n : ℕ) (is : n ≡ lenOf (decode (drop at t))) whe
       go : (d : Decoded) → decode (drop at t) ≡ d → n ≡ lenOf d → isUtf8 (drop at t) ≡ false
       go Bad e l = sym (same-answer false _ (λ x. clash x refl, λ u. absurd (bad-utf8 t at h e u)))
       go (Char s m) e l = absurd (omega (arith, found-bounds t at s m e))
-
--- a text without its last character is UTF-8
-pub last-cut : (t : List ℕ) (m : ℕ) → LastChar t m → Boundary t (length t - m)
-last-cut t m (p, s, u, y, e, l) =
-    (p, encode s, u, utf8-one s y, e, omega (arith, length-append p (encode s), ap length e))

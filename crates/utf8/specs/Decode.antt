@@ -5,7 +5,6 @@ use mathlib.Core.List.{List, [], _∷_}
 use Prim.Native.Nat.{ℕ, _+_, _-_, _*_, _/_, _%_}
 use lib.Dec.{ltb, eqb}
 use lib.Count.{leadingZeros}
-use lib.ListN.{length}
 use Rattle.utf8.specs.declared.Decoded.{Decoded}
 use Rattle.utf8.specs.declared.Decoded.the-variants.{Char, Bad}
 
@@ -49,7 +48,7 @@ decode4 a b c d =
     Bad)
     Bad
 
--- a character of two bytes from its first byte and the text behind it; none where that text is too short
+-- a character of two bytes from its first byte and the text after it; none where that text is too short
 unfoldable pub rest2 : ℕ → List ℕ → Decoded
 rest2 a [] = Bad
 rest2 a (b ∷ r) = decode2 a b
@@ -81,12 +80,3 @@ decode (a ∷ r) = decodeBy (lengthFrom a) a r
 abbrev pub lenOf : Decoded → ℕ
 lenOf (Char s n) = n
 lenOf Bad = 0
-
--- the character that was found, where it has n bytes
-abbrev pub wholeOf : ℕ → Decoded → Decoded
-wholeOf n (Char s k) = cond (eqb k n) (Char s k) Bad
-wholeOf n Bad = Bad
-
--- the character that a text is, where it is one and nothing else (serves contracts between functions)
-unfoldable pub onlyChar : List ℕ → Decoded
-onlyChar text = wholeOf (length text) (decode text)

@@ -7,7 +7,7 @@ use lib.ListN.{length, drop}
 use Rattle.utf8.specs.Decode.{decode}
 use Rattle.utf8.specs.declared.Decoded.the-variants.{Char, Bad}
 
--- characters as RFC 3629 decodes them, one behind the other up to the end, at most as many as the first number says
+-- characters as RFC 3629 decodes them, one after the other up to the end, at most as many as the first number says
 unfoldable pub charsWithin : ℕ → List ℕ → Bool
 charsWithin zero [] = true
 charsWithin zero (a ∷ r) = false

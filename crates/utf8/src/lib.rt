@@ -4,7 +4,7 @@ ghost use Prim.Native.Nat.{_≤_};
 ghost use lib.ListN.{length, drop};
 ghost use Rattle.buffer.specs.Buffer.{Wrote};
 ghost use Rattle.utf8.specs.Utf8.{Scalar, encode};
-ghost use Rattle.utf8.specs.Decode.{lengthFrom, decode2, decode3, decode4, decode, onlyChar};
+ghost use Rattle.utf8.specs.Decode.{lengthFrom, decode2, decode3, decode4, decode};
 ghost use Rattle.utf8.specs.Cut.{tail, isBoundary, lastLen};
 
 // The character at a place of a text, with its length in bytes, or none.
@@ -38,7 +38,8 @@ pub fn is_tail(b: u8) -> bool
     b / 64 == 2
 }
 
-fn two(a: u8, b: u8) -> Decoded
+// A character of two bytes.
+pub fn two(a: u8, b: u8) -> Decoded
     ensures { λ r. ⌜ r ≡ decode2 a b ⌝ }
 {
     if b / 64 != 2 {
@@ -51,7 +52,8 @@ fn two(a: u8, b: u8) -> Decoded
     Decoded::Char { scalar, len: 2 }
 }
 
-fn three(a: u8, b: u8, c: u8) -> Decoded
+// A character of three bytes.
+pub fn three(a: u8, b: u8, c: u8) -> Decoded
     ensures { λ r. ⌜ r ≡ decode3 a b c ⌝ }
 {
     if b / 64 != 2 {
@@ -73,7 +75,8 @@ fn three(a: u8, b: u8, c: u8) -> Decoded
     Decoded::Char { scalar, len: 3 }
 }
 
-fn four(a: u8, b: u8, c: u8, d: u8) -> Decoded
+// A character of four bytes.
+pub fn four(a: u8, b: u8, c: u8, d: u8) -> Decoded
     ensures { λ r. ⌜ r ≡ decode4 a b c d ⌝ }
 {
     if b / 64 != 2 {
@@ -106,16 +109,15 @@ pub fn decode_char(text: &[u8], at: usize) -> Decoded
         return Decoded::Bad;
     }
     let first = text[at];
-    // most characters are ASCII
-    if first < 0x80 {
+    let n = char_len(first);
+    if text.len() - at < n {
+        return Decoded::Bad;
+    }
+    if n == 1 {
         return Decoded::Char {
             scalar: wide(first),
             len: 1,
         };
-    }
-    let n = char_len(first);
-    if text.len() - at < n {
-        return Decoded::Bad;
     }
     if n == 2 {
         return two(first, text[at + 1]);
@@ -127,33 +129,6 @@ pub fn decode_char(text: &[u8], at: usize) -> Decoded
         return four(first, text[at + 1], text[at + 2], text[at + 3]);
     }
     Decoded::Bad
-}
-
-// The character that a text is, where it is one and nothing else.
-pub fn only_char(text: &[u8]) -> Decoded
-    ensures { λ r. ⌜ r ≡ onlyChar (now (text .entry)) ⌝ }
-{
-    if text.len() == 0 {
-        return Decoded::Bad;
-    }
-    let first = text[0];
-    if first < 0x80 {
-        if text.len() != 1 {
-            return Decoded::Bad;
-        }
-        return Decoded::Char {
-            scalar: wide(first),
-            len: 1,
-        };
-    }
-    if char_len(first) != text.len() {
-        return Decoded::Bad;
-    }
-    match text.len() {
-        2 => two(first, text[1]),
-        3 => three(first, text[1], text[2]),
-        _ => four(first, text[1], text[2], text[3]),
-    }
 }
 
 fn wide(b: u8) -> u32

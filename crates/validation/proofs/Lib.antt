@@ -1,3 +1,1 @@
-pub mod Pairs
 pub mod Ascii
-pub mod Ends

@@ -60,8 +60,18 @@ pub struct Row {
     pub texts: Vec<Vec<u8>>,
     /// Whether all of them are accepted; else all of them are refused.
     pub accepted: bool,
-    /// Whether a long text is read whose bytes need no more than a look at each: plain, raw, digits, or not ASCII.
-    pub smooth: bool,
+    /// The largest ratio to the Rust that starts from bytes that is aimed at.
+    pub goal: f64,
+}
+
+/// What a long text is made of, as far as its goal goes.
+#[derive(Clone, Copy, PartialEq)]
+enum Made {
+    /// Bytes that need no more than a look at each: plain, raw, decimal digits, or not ASCII.
+    Smooth,
+    /// Nothing but escapes or dropped line breaks.
+    Escapes,
+    Other,
 }
 
 /// A long text with its row's name, and its kind where it has decoded bytes.
@@ -69,7 +79,7 @@ struct Text {
     name: String,
     kind: u8,
     bytes: Vec<u8>,
-    smooth: bool,
+    made: Made,
 }
 
 /// Every row, in the order of the table.
@@ -82,12 +92,15 @@ pub fn all() -> Vec<Row> {
 }
 
 fn row(call: Call, name: &str, texts: Vec<Vec<u8>>, accepted: bool) -> Row {
-    Row { name: format!("{}: {name}", call.name()), call, texts, accepted, smooth: false }
+    let goal = if name.starts_with("a sheet's") { 0.85 } else { 1.0 };
+    Row { name: format!("{}: {name}", call.name()), call, texts, accepted, goal }
 }
 
 /// A row of texts that are written out.
 fn short(call: Call, name: &str, texts: &[&str], accepted: bool) -> Row {
-    row(call, name, texts.iter().map(|text| text.as_bytes().to_vec()).collect(), accepted)
+    let row = row(call, name, texts.iter().map(|text| text.as_bytes().to_vec()).collect(), accepted);
+    let goal = if accepted { row.goal } else { 1.3 };
+    Row { goal, ..row }
 }
 
 /// A row for each name and its texts.
@@ -96,8 +109,12 @@ fn shorts(call: Call, named: &[(&str, &[&str])], accepted: bool) -> Vec<Row> {
 }
 
 fn long(call: Call, text: Text, accepted: bool) -> Row {
-    let smooth = text.smooth && matches!(call, Call::Read);
-    Row { smooth, ..row(call, &text.name, vec![text.bytes], accepted) }
+    let goal = match (text.made, call) {
+        (Made::Smooth, _) => 0.4,
+        (Made::Escapes, Call::DecodeOwned(_) | Call::DecodeLent(_)) => 1.25,
+        _ => 1.0,
+    };
+    Row { goal, ..row(call, &text.name, vec![text.bytes], accepted) }
 }
 
 // ---- reading -----------------------------------------------------------------------------------------------------------
@@ -217,16 +234,16 @@ fn filled(name: &str, size: Size, before: &str, unit: &str, after: &str) -> Text
     let room = size.bytes - before.len() - after.len();
     let zeros = "0".repeat(room % unit.len());
     let bytes = [before, &zeros, &unit.repeat(room / unit.len()), after].concat().into_bytes();
-    Text { name: format!("{name}, {}", size.name), kind: 0, bytes, smooth: false }
+    Text { name: format!("{name}, {}", size.name), kind: 0, bytes, made: Made::Other }
 }
 
 fn long_numbers(size: Size) -> Vec<Text> {
-    let digits = |name, before, unit, after| Text { smooth: true, ..filled(name, size, before, unit, after) };
+    let digits = |name, before, unit, after| Text { made: Made::Smooth, ..filled(name, size, before, unit, after) };
     vec![
-        digits("integer, binary digits", "0b", "01101", ""),
-        digits("integer, octal digits", "0o", "1234567", ""),
+        filled("integer, binary digits", size, "0b", "01101", ""),
+        filled("integer, octal digits", size, "0o", "1234567", ""),
         digits("integer, decimal digits", "", "1234567890", ""),
-        digits("integer, hexadecimal digits", "0x", "0123456789abcdefABCDEF", ""),
+        filled("integer, hexadecimal digits", size, "0x", "0123456789abcdefABCDEF", ""),
         digits("integer, decimal digits and _", "1", "234_", ""),
         digits("integer, decimal digits, u64", "", "1234567890", "u64"),
         digits("float, digits before the period", "", "1234567890", ".5"),
@@ -242,21 +259,21 @@ fn long_quoted(size: Size) -> Vec<Text> {
     let mut texts = Vec::new();
     for (kind, name, prefix) in QUOTED {
         let quote = format!("{prefix}\"");
-        let mut add = |what: &str, unit: &str, smooth: bool| {
+        let mut add = |what: &str, unit: &str, made: Made| {
             let text = filled(&format!("{name}, {what}"), size, &quote, unit, "\"");
-            texts.push(Text { kind, smooth, ..text });
+            texts.push(Text { kind, made, ..text });
         };
-        add("plain", PLAIN, true);
-        add("\\n", "\\n", false);
-        add("\\x41", "\\x41", false);
-        add("an escape in 64 bytes", &spaced("\\n"), false);
-        add("dropped line breaks", "\\\n", false);
-        add("dropped line breaks and blanks", "a\\\n    ", false);
+        add("plain", PLAIN, Made::Smooth);
+        add("\\n", "\\n", Made::Escapes);
+        add("\\x41", "\\x41", Made::Escapes);
+        add("an escape in 64 bytes", &spaced("\\n"), Made::Other);
+        add("dropped line breaks", "\\\n", Made::Escapes);
+        add("dropped line breaks and blanks", "a\\\n    ", Made::Escapes);
         if kind != BYTE_STRING {
-            add("\\u{e9}", "\\u{e9}", false);
-            add("é", "é", true);
-            add("4-byte characters", "🦊", true);
-            add("an é in 64 bytes", &spaced("é"), true);
+            add("\\u{e9}", "\\u{e9}", Made::Escapes);
+            add("é", "é", Made::Smooth);
+            add("4-byte characters", "🦊", Made::Smooth);
+            add("an é in 64 bytes", &spaced("é"), Made::Smooth);
         }
         texts.extend(long_raw(size, kind, name, prefix));
     }
@@ -269,18 +286,18 @@ fn spaced(piece: &str) -> String {
 }
 
 fn long_raw(size: Size, kind: u8, name: &str, prefix: &str) -> Vec<Text> {
-    let raw = |what: &str, hashes: &str, unit: &str, smooth: bool| {
+    let raw = |what: &str, hashes: &str, unit: &str, made: Made| {
         let (before, after) = (format!("{prefix}r{hashes}\""), format!("\"{hashes}"));
         let text = filled(&format!("{name}, raw, {what}"), size, &before, unit, &after);
-        Text { kind, smooth, ..text }
+        Text { kind, made, ..text }
     };
     let mut texts = vec![
-        raw("0 hashes", "", PLAIN, true),
-        raw("3 hashes", "###", PLAIN, true),
-        raw("3 hashes, inner quotes", "###", "ab\"##", false),
+        raw("0 hashes", "", PLAIN, Made::Smooth),
+        raw("3 hashes", "###", PLAIN, Made::Smooth),
+        raw("3 hashes, inner quotes", "###", "ab\"##", Made::Other),
     ];
     if kind != BYTE_STRING {
-        texts.push(raw("0 hashes, é", "", "é", true));
+        texts.push(raw("0 hashes, é", "", "é", Made::Smooth));
     }
     texts
 }
@@ -430,22 +447,23 @@ fn settling() -> Vec<Row> {
 
 fn long_settled(size: Size) -> Vec<Text> {
     let settled = |name, before, unit, after| filled(name, size, before, unit, after);
+    let smooth = |name, before, unit, after| Text { made: Made::Smooth, ..filled(name, size, before, unit, after) };
     vec![
         settled("integer, zeros and 1850", "", "0", "1850"),
-        settled("float, digits", "1.", "1234567890", "7"),
+        smooth("float, digits", "1.", "1234567890", "7"),
         settled("float, digits and zeros", "1.5", "0", ""),
-        settled("string, plain", "\"", PLAIN, "\""),
+        smooth("string, plain", "\"", PLAIN, "\""),
         settled("string, \\n", "\"", "\\n", "\""),
         settled("string, \\x41", "\"", "\\x41", "\""),
         settled("string, \\u{e9}", "\"", "\\u{e9}", "\""),
         settled("string, dropped line breaks", "\"", "\\\n", "\""),
-        settled("string, é", "\"", "é", "\""),
-        settled("string, 4-byte characters", "\"", "🦊", "\""),
-        settled("string, raw, 3 hashes", "r###\"", PLAIN, "\"###"),
+        smooth("string, é", "\"", "é", "\""),
+        smooth("string, 4-byte characters", "\"", "🦊", "\""),
+        smooth("string, raw, 3 hashes", "r###\"", PLAIN, "\"###"),
         settled("string, suffix", "\"a\"x", "x", ""),
-        settled("byte string, plain", "b\"", PLAIN, "\""),
+        smooth("byte string, plain", "b\"", PLAIN, "\""),
         settled("byte string, \\xff", "b\"", "\\xff", "\""),
-        settled("C string, plain", "c\"", PLAIN, "\""),
+        smooth("C string, plain", "c\"", PLAIN, "\""),
         settled("C string, an é in 1 KB", "c\"", &format!("é{}", "a".repeat(1022)), "\""),
     ]
 }

@@ -6,8 +6,8 @@ use mathlib.Core.List.{List}
 use Prim.Native.Nat.{ℕ, _+_}
 use lib.ListN.{length, drop}
 use Rattle.err.specs.Reading.{outcomeOf}
+use Rattle.escape.specs.declared.Allowed.the-variants.{Text, Bytes, C}
 use Rattle.grammar.specs.Meaning as worth
-use Rattle.string.specs.declared.Kind.the-variants.{Text, Bytes, C}
 use Rattle.bare_form.specs.Bare.{len}
 use Rattle.bare_form.proofs.Readings.{short, utf8, bool-text, char-scalar, string-read}
 use Rattle.bare_form.proofs.Lengths.{plain-bare, char-length, byte-length}

@@ -1,13 +1,13 @@
 -- `bare_form::put_bare` meets its contract.
 -- Assumes nothing.
 use borrow.Author.Needs.{needs}
-use mathlib.Core.Path.{_≡_, refl, ap}
+use mathlib.Core.Path.{_≡_, ap}
 use mathlib.Core.List.{List}
 use Prim.Native.Nat.{ℕ}
 use native.Mathlib.Omega.{arith}
 use lib.ListN.{length, drop}
 use Rattle.buffer.specs.Buffer.{Wrote}
-use Rattle.string.specs.declared.Kind.the-variants.{Text, Bytes, C}
+use Rattle.escape.specs.declared.Allowed.the-variants.{Text, Bytes, C}
 use Rattle.bare_form.proofs.Readings.{short, utf8, bool-text, float-read, char-scalar, string-read}
 use Rattle.bare_form.proofs.Lengths.{no-len, float-near}
 use Rattle.bare_form.proofs.put_bare.Statement.{statement}
@@ -27,57 +27,60 @@ put-bytes-requires c κs =
     let p = rw (f .given .1) at (c .before .before .before .before .before .pre) in
     omega (arith, ap length (bool-text s lit (drop (lit .end) s) (p .0)), p .1 .room)
 
-enum-told-3 : tie.Need-enum-told-3
-enum-told-3 c = search needs
-
 enum-known-found : tie.Need-enum-known-found
 enum-known-found c = search needs
 
-put-float-requires : tie.Need-put-float-requires
-put-float-requires c κs =
-    let f = c .before .before .found in
-    let p = rw (f .given .1) at (c .before .before .before .before .before .before .pre) in
-    ((short _ (p .0), float-read _ (f .given .0 .0) (p .0)), (float-near _ _ (p .1 .form), p .1 .room))
+put-integer-requires : tie.Need-put-integer-requires
+put-integer-requires c κs = rw (c .before .before .found .given .1) at (c .before .before .before .before .before .before .pre)
 
 enum-known-found-2 : tie.Need-enum-known-found-2
 enum-known-found-2 c = search needs
 
-put-char-requires : tie.Need-put-char-requires
-put-char-requires c κs =
+put-float-requires : tie.Need-put-float-requires
+put-float-requires c κs =
     let f = c .before .before .found2 in
     let p = rw (f .given .1) at (c .before .before .before .before .before .before .pre) in
-    (char-scalar _ (f .given .0 .0) (p .0), p .1 .room)
+    ((short _ (p .0), float-read _ (f .given .0 .0) (p .0)), (float-near _ _ (p .1 .form), p .1 .room))
 
 enum-known-found-3 : tie.Need-enum-known-found-3
 enum-known-found-3 c = search needs
 
-put-form-requires : tie.Need-put-form-requires
-put-form-requires c κs =
+put-char-requires : tie.Need-put-char-requires
+put-char-requires c κs =
     let f = c .before .before .found3 in
     let p = rw (f .given .1) at (c .before .before .before .before .before .before .pre) in
-    (((short _ (p .0), utf8 _ (p .0)), string-read _ Text (f .given .0 .0) (p .0)), p .1 .room)
+    (char-scalar _ (f .given .0 .0) (p .0), p .1 .room)
 
 enum-known-found-4 : tie.Need-enum-known-found-4
 enum-known-found-4 c = search needs
 
-put-byte-requires : tie.Need-put-byte-requires
-put-byte-requires c κs = (rw (c .before .before .found4 .given .1) at (c .before .before .before .before .before .before .pre .1)) .room
+put-form-requires : tie.Need-put-form-requires
+put-form-requires c κs =
+    let f = c .before .before .found4 in
+    let p = rw (f .given .1) at (c .before .before .before .before .before .before .pre) in
+    (((short _ (p .0), utf8 _ (p .0)), string-read _ Text (f .given .0 .0) (p .0)), p .1 .room)
 
 enum-known-found-5 : tie.Need-enum-known-found-5
 enum-known-found-5 c = search needs
 
-put-form-requires-2 : tie.Need-put-form-requires-2
-put-form-requires-2 c κs =
-    let f = c .before .before .found5 in
-    let p = rw (f .given .1) at (c .before .before .before .before .before .before .pre) in
-    (((short _ (p .0), utf8 _ (p .0)), string-read _ Bytes (f .given .0 .0) (p .0)), p .1 .room)
+put-byte-requires : tie.Need-put-byte-requires
+put-byte-requires c κs = (rw (c .before .before .found5 .given .1) at (c .before .before .before .before .before .before .pre .1)) .room
 
 enum-known-found-6 : tie.Need-enum-known-found-6
 enum-known-found-6 c = search needs
 
+put-form-requires-2 : tie.Need-put-form-requires-2
+put-form-requires-2 c κs =
+    let f = c .before .before .found6 in
+    let p = rw (f .given .1) at (c .before .before .before .before .before .before .pre) in
+    (((short _ (p .0), utf8 _ (p .0)), string-read _ Bytes (f .given .0 .0) (p .0)), p .1 .room)
+
+enum-known-found-7 : tie.Need-enum-known-found-7
+enum-known-found-7 c = search needs
+
 put-form-requires-3 : tie.Need-put-form-requires-3
 put-form-requires-3 c κs =
-    let f = c .before .before .found6 in
+    let f = c .before .before .found7 in
     let p = rw (f .given .1) at (c .before .before .before .before .before .before .pre) in
     (((short _ (p .0), utf8 _ (p .0)), string-read _ C (f .given .0 .0) (p .0)), p .1 .room)
 
@@ -98,44 +101,47 @@ returns-2 c =
     let p = rw (f .given .1) at (c .before .before .before .before .before .before .before .before .pre) in
     rw (f .given .1) (same-piece (bool-text s lit (drop (lit .end) s) (p .0)) (c .before .before .put-bytes .ensures))
 
-returns-3 : tie.Need-returns-3
-returns-3 c = absurd ((rw (c .enum-told3 .given .1) at (c .before .before .before .before .pre .2)) refl)
-
 same-length-2 : tie.Need-same-length-2
 same-length-2 c = search needs
 
-returns-4 : tie.Need-returns-4
-returns-4 c = rw (c .before .before .before .before .before .found .given .1) (c .before .before .put-float .ensures)
+returns-3 : tie.Need-returns-3
+returns-3 c = rw (c .before .before .before .before .before .found .given .1) (c .before .before .put-integer .ensures)
 
 same-length-3 : tie.Need-same-length-3
 same-length-3 c = search needs
 
-returns-5 : tie.Need-returns-5
-returns-5 c = rw (c .before .before .before .before .before .found2 .given .1) (c .before .before .put-char .ensures)
+returns-4 : tie.Need-returns-4
+returns-4 c = rw (c .before .before .before .before .before .found2 .given .1) (c .before .before .put-float .ensures)
 
 same-length-4 : tie.Need-same-length-4
 same-length-4 c = search needs
 
-returns-6 : tie.Need-returns-6
-returns-6 c = rw (c .before .before .before .before .before .found3 .given .1) (c .before .before .put-form .ensures)
+returns-5 : tie.Need-returns-5
+returns-5 c = rw (c .before .before .before .before .before .found3 .given .1) (c .before .before .put-char .ensures)
 
 same-length-5 : tie.Need-same-length-5
 same-length-5 c = search needs
 
-returns-7 : tie.Need-returns-7
-returns-7 c = rw (c .before .before .before .before .before .found4 .given .1) (c .before .before .put-byte .ensures)
+returns-6 : tie.Need-returns-6
+returns-6 c = rw (c .before .before .before .before .before .found4 .given .1) (c .before .before .put-form .ensures)
 
 same-length-6 : tie.Need-same-length-6
 same-length-6 c = search needs
 
-returns-8 : tie.Need-returns-8
-returns-8 c = rw (c .before .before .before .before .before .found5 .given .1) (c .before .before .put-form2 .ensures)
+returns-7 : tie.Need-returns-7
+returns-7 c = rw (c .before .before .before .before .before .found5 .given .1) (c .before .before .put-byte .ensures)
 
 same-length-7 : tie.Need-same-length-7
 same-length-7 c = search needs
 
+returns-8 : tie.Need-returns-8
+returns-8 c = rw (c .before .before .before .before .before .found6 .given .1) (c .before .before .put-form2 .ensures)
+
+same-length-8 : tie.Need-same-length-8
+same-length-8 c = search needs
+
 returns-9 : tie.Need-returns-9
-returns-9 c = rw (c .before .before .before .before .before .found6 .given .1) (c .before .before .put-form3 .ensures)
+returns-9 c = rw (c .before .before .before .before .before .found7 .given .1) (c .before .before .put-form3 .ensures)
 
 pub put-bare-spec : {M : Type 1} → statement M
 put-bare-spec =
@@ -144,32 +150,34 @@ put-bare-spec =
     enum-told
     enum-told-2
     put-bytes-requires
-    enum-told-3
     enum-known-found
-    put-float-requires
+    put-integer-requires
     enum-known-found-2
-    put-char-requires
+    put-float-requires
     enum-known-found-3
-    put-form-requires
+    put-char-requires
     enum-known-found-4
-    put-byte-requires
+    put-form-requires
     enum-known-found-5
-    put-form-requires-2
+    put-byte-requires
     enum-known-found-6
+    put-form-requires-2
+    enum-known-found-7
     put-form-requires-3
     returns
     same-length
     returns-2
-    returns-3
     same-length-2
-    returns-4
+    returns-3
     same-length-3
-    returns-5
+    returns-4
     same-length-4
-    returns-6
+    returns-5
     same-length-5
-    returns-7
+    returns-6
     same-length-6
-    returns-8
+    returns-7
     same-length-7
+    returns-8
+    same-length-8
     returns-9)

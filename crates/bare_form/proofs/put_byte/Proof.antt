@@ -44,7 +44,7 @@ fits c =
 put-form-requires : tie.Need-put-form-requires
 put-form-requires c κs = laws.room _ (c .before .before .before .before .put-two .ensures) (omega (arith, fits c))
 
--- it stands behind the first quote
+-- it stands after the first quote
 joined : (c : tie.After-put-form) →
     let a = c .before .before .before .before .before .before .before .before .args in
     let q = c .before .before .before .before .before .put-two in

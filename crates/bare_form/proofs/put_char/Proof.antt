@@ -49,7 +49,7 @@ put-char-requires c κs =
     let b = c .before .before .before .before .before .before .before in
     (b .pre .0, laws.room _ (c .before .before .before .before .put-one .ensures) (omega (arith, fits c)))
 
--- it stands behind the first quote
+-- it stands after the first quote
 joined : (c : tie.After-put-char) →
     let a = c .before .before .before .before .before .before .before .before .args in
     let q = c .before .before .before .before .before .put-one in

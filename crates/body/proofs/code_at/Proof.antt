@@ -13,14 +13,14 @@ use Rattle.body.proofs.Codes as codes
 use Rattle.body.proofs.code_at.Statement.{statement}
 use Rattle.body.proofs.code_at.Tie as tie
 
--- behind the tests for a backslash
+-- after the tests for a backslash
 abbrev entry : tie.After-shared-slice-known3 → tie.Start
 entry b = b .before .before .before .before .before
 
 there : (b : tie.After-shared-slice-known3) → entry b .args .at < length (entry b .args .s .now)
 there b = search needs
 
--- the blanks behind a line break
+-- the blanks after a line break
 abbrev break : tie.After-blanks-len → tie.After-shared-slice-known3
 break c = c .before .before .before
 
@@ -74,16 +74,18 @@ returns-3 c =
     let b = break (c .before) in
     codes.at-open _ _ _ (there b) (b .before .if2 .left) (c .before .before .before .if3 .taken) _ (count (c .before)) (c .if4 .taken)
 
-add-result : tie.Need-add-result
-add-result c = omega (arith, blanks-in (c .before), entry (break (c .before)) .pre)
+add-nothing-code : tie.Need-add-nothing-code
+add-nothing-code c = omega (arith, blanks-in (c .before), entry (break (c .before)) .pre)
 
-mul-result : tie.Need-mul-result
-mul-result c = omega (arith, blanks-in (c .before), entry (break (c .before)) .pre)
+nothing-code-requires : tie.Need-nothing-code-requires
+nothing-code-requires c κs = omega (arith, blanks-in (c .before), entry (break (c .before)) .pre)
 
 returns-4 : tie.Need-returns-4
 returns-4 c =
-    let b = break (c .before) in
-    codes.at-blanks _ _ _ (there b) (b .before .if2 .left) (c .before .before .before .if3 .taken) _ (count (c .before)) (c .if4 .left)
+    let t = c .before in
+    let b = break (t .before) in
+    c .nothing-code .ensures
+    ∙ codes.at-blanks _ _ _ (there b) (b .before .if2 .left) (t .before .before .before .if3 .taken) _ (count (t .before)) (t .if4 .left)
 
 returns-5 : tie.Need-returns-5
 returns-5 c =
@@ -124,8 +126,8 @@ code-at-spec =
     blanks-len-requires
     add-if4
     returns-3
-    add-result
-    mul-result
+    add-nothing-code
+    nothing-code-requires
     returns-4
     returns-5
     sub-code

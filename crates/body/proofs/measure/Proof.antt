@@ -1,59 +1,205 @@
 -- `body::measure` meets its contract.
 -- Assumes nothing.
 use borrow.Author.Needs.{needs}
-use mathlib.Core.Path.{_≡_, refl, sym, _∙_}
+use mathlib.Core.Path.{_≡_, refl, sym, _∙_, subst}
+use mathlib.Core.Logic.{⊎-elim}
+use mathlib.Core.List.{List, _++_}
+use Prim.Native.Nat.{ℕ, _+_, _-_, _≤_, _<_}
 use native.Mathlib.Omega.{arith}
-use lib.ListN.{getD}
+use lib.ListN.{length, take, drop, length-append}
 use Rattle.scan.proofs.Bytes.{byte-inside}
-use Rattle.body.proofs.Steps as steps
+use Rattle.utf8.proofs.Cuts.{last-le}
+use Rattle.escape.specs.Escape.{bytesOf, Valid}
+use Rattle.escape.specs.declared.Allowed.{Allowed}
+use Rattle.escape.specs.declared.Unescaped.{Unescaped}
+use Rattle.escape_code.specs.Code.{codedLen, codedValue}
+use Rattle.plain_run.specs.Plain.{plainByte}
+use Rattle.body.specs.Step.{piece, stepOf}
 use Rattle.body.proofs.Within.{step-in}
 use Rattle.body.proofs.Bodies as bodies
+use Rattle.body.proofs.Codes as codes
 use Rattle.body.proofs.Runs as runs
-use Rattle.body.proofs.Strides as strides
 use Rattle.body.proofs.measure.Statement.{statement}
 use Rattle.body.proofs.measure.Tie as tie
 
-front-end-requires : tie.Need-front-end-requires
+-- what is passed stands for v, of which n is the length
+abbrev Inv-loop : tie.InvT-loop
+Inv-loop s k last end i₀ n₀ i n = (v : List ℕ) × bodies.Passed (stepOf k) s i v × (n ≡ length v)
+
+abbrev μ-loop : tie.MeasureT-loop
+μ-loop s k last end i₀ n₀ i n = length s - i
+
+-- the text, its kind, and what is passed
+abbrev entry : tie.At-loop Inv-loop μ-loop → tie.Start Inv-loop μ-loop
+entry a = a .before .before .before .before
+
+abbrev text : tie.At-loop Inv-loop μ-loop → List ℕ
+text a = entry a .args .s .now
+
+abbrev kind : tie.At-loop Inv-loop μ-loop → Allowed
+kind a = entry a .args .k
+
+abbrev so-far : tie.At-loop Inv-loop μ-loop → List ℕ
+so-far a = a .loop .inv .0
+
+-- what is passed is no longer than the text, which has fewer than 2^32 bytes
+short : (a : tie.At-loop Inv-loop μ-loop) {i : ℕ} {v : List ℕ} → bodies.Passed (stepOf (kind a)) (text a) i v → (length v ≤ i) × (i < 4294967296)
+short a p = (p .short, omega (arith, p .within, entry a .pre))
+
+-- ---- what a backslash starts
+
+abbrev turn : tie.Else2 Inv-loop μ-loop → tie.At-loop Inv-loop μ-loop
+turn c = c .before .before .before .before
+
+abbrev size : tie.Else2 Inv-loop μ-loop → ℕ
+size c = codedLen (c .before .code-at .result)
+
+abbrev value : tie.Else2 Inv-loop μ-loop → Unescaped
+value c = codedValue (c .before .code-at .result)
+
+stepped : (c : tie.Else2 Inv-loop μ-loop) → stepOf (kind (turn c)) (drop (turn c .loop .i) (text (turn c))) ≡ piece (size c) (value c)
+stepped c = codes.code-step _ _ _ (c .before .code-at .ensures) (c .if2 .left)
+
+room : (c : tie.Else2 Inv-loop μ-loop)
+    → (0 < size c) × (turn c .loop .i + size c ≤ length (text (turn c))) × (length (bytesOf (value c)) ≤ size c) × Valid (value c)
+room c = bodies.bounds _ 1 (step-in _) (turn c .loop .inv .1) _ _ (stepped c)
+
+onward : (c : tie.Else2 Inv-loop μ-loop)
+    → bodies.Passed (stepOf (kind (turn c))) (text (turn c)) (turn c .loop .i + size c) (so-far (turn c) ++ bytesOf (value c))
+onward c = bodies.more _ 1 (step-in _) (turn c .loop .inv .1) _ _ (stepped c)
+
+-- so many bytes more
+longer : (c : tie.After-value-len Inv-loop μ-loop) →
+    let d = c .before .before in
+    turn d .loop .n + c .value-len .result ≡ length (so-far (turn d) ++ bytesOf (value d))
+longer c =
+    let d = c .before .before in
+    let e : c .value-len .result ≡ length (bytesOf (value d)) = rw (c .before .code-value .ensures) at (c .value-len .ensures) in
+    omega (arith, e, length-append (so-far (turn d)) (bytesOf (value d)), turn d .loop .inv .2)
+
+-- ---- a run of bytes that stand for themselves
+
+abbrev at-run : tie.After-plain-end Inv-loop μ-loop → tie.At-loop Inv-loop μ-loop
+at-run b = b .before .before .before
+
+abbrev passed : tie.After-plain-end Inv-loop μ-loop → List ℕ
+passed b = let a = at-run b in so-far a ++ take (b .plain-end .result - a .loop .i) (drop (a .loop .i) (text a))
+
+ran : (b : tie.After-plain-end Inv-loop μ-loop) → let a = at-run b in bodies.Passed (stepOf (kind a)) (text a) (b .plain-end .result) (passed b)
+ran b =
+    let a = at-run b in
+    runs.passed-to (stepOf (kind a)) (plainByte (kind a)) (runs.plain-step _) _ (a .loop .inv .1) (b .plain-end .ensures)
+
+counted : (b : tie.After-plain-end Inv-loop μ-loop) →
+    let a = at-run b in
+    (a .loop .i ≤ b .plain-end .result) × (b .plain-end .result ≤ length (text a)) × (length (passed b) ≡ length (so-far a) + (b .plain-end .result - a .loop .i))
+counted b = let a = at-run b in runs.counts (plainByte (kind a)) _ _ (so-far a) _ (a .loop .inv .1 .within) (b .plain-end .ensures)
+
+last-len-requires : tie.Need-last-len-requires Inv-loop μ-loop
+last-len-requires c κs = search needs
+
+sub-end : tie.Need-sub-end Inv-loop μ-loop
+sub-end c = omega (arith, c .last-len .ensures, last-le (c .before .before .args .s .now))
+
+front-end-requires : tie.Need-front-end-requires Inv-loop μ-loop
 front-end-requires c κs = search needs
 
-byte-at-requires : tie.Need-byte-at-requires
+loop-holds : tie.Need-loop-holds Inv-loop μ-loop
+loop-holds c =
+    let a = c .before .before .before .args in
+    let e = c .front-end .ensures in
+    (take (c .front-end .result) (a .s .now), runs.front-passed _ _ _ e, runs.front-length _ _ _ e)
+
+byte-at-requires : tie.Need-byte-at-requires Inv-loop μ-loop
 byte-at-requires c κs = search needs
 
-measure-on-requires : tie.Need-measure-on-requires
-measure-on-requires c κs = search needs
+code-at-requires : tie.Need-code-at-requires Inv-loop μ-loop
+code-at-requires c κs =
+    let a = c .before .before in
+    (a .loop .inv .1 .within, (entry a .pre, rw (a .before .before .last-len .ensures)))
 
-plain-ending-requires : tie.Need-plain-ending-requires
-plain-ending-requires c κs =
-    let f = c .before .before in
-    let a = f .before .before .args in
-    let other : getD (a .s .now) (f .front-end .result) 0 ≡ 92 → ⊥ = λ e. c .match .rest .1 (c .before .byte-at .ensures ∙ e) in
-    (other, strides.other-stops _ _ _ other (runs.front-stops _ _ _ (f .front-end .ensures)))
+code-value-requires : tie.Need-code-value-requires Inv-loop μ-loop
+code-value-requires c κs = search needs
 
-returns : tie.Need-returns
+value-len-requires : tie.Need-value-len-requires Inv-loop μ-loop
+value-len-requires c κs = search needs
+
+add-n : tie.Need-add-n Inv-loop μ-loop
+add-n c = let d = c .before .before in omega (arith, longer c, short (turn d) (onward d))
+
+code-len-requires : tie.Need-code-len-requires Inv-loop μ-loop
+code-len-requires c κs = search needs
+
+add-i : tie.Need-add-i Inv-loop μ-loop
+add-i c = let d = c .before .before .before in omega (arith, c .code-len .ensures, short (turn d) (onward d))
+
+loop-less : tie.Need-loop-less Inv-loop μ-loop
+loop-less c = omega (arith, c .code-len .ensures, room (c .before .before .before))
+
+loop-again : tie.Need-loop-again Inv-loop μ-loop
+loop-again c =
+    let d = c .before .before .before in
+    let a = turn d in (
+      so-far a ++ bytesOf (value d),
+      subst (λ (m : ℕ). bodies.Passed (stepOf (kind a)) (text a) (a .loop .i + m) (so-far a ++ bytesOf (value d))) (sym (c .code-len .ensures)) (onward d),
+      longer (c .before),
+    )
+
+plain-end-requires : tie.Need-plain-end-requires Inv-loop μ-loop
+plain-end-requires c κs = c .before .before .loop .inv .1 .within
+
+sub-n : tie.Need-sub-n Inv-loop μ-loop
+sub-n c = counted (c .before) .0
+
+add-n-2 : tie.Need-add-n-2 Inv-loop μ-loop
+add-n-2 c = let b = c .before in omega (arith, counted b .2, at-run b .loop .inv .2, short (at-run b) (ran b))
+
+loop-less-2 : tie.Need-loop-less-2 Inv-loop μ-loop
+loop-less-2 c = omega (arith, c .if3 .left, counted (c .before) .0, counted (c .before) .1)
+
+loop-again-2 : tie.Need-loop-again-2 Inv-loop μ-loop
+loop-again-2 c = let b = c .before in (passed b, ran b, omega (arith, counted b .2, at-run b .loop .inv .2))
+
+ending-at-requires : tie.Need-ending-at-requires Inv-loop μ-loop
+ending-at-requires c κs =
+    let a = c .before .before in
+    let byte = c .before .byte-at .ensures in (
+      a .before .before .last-len .ensures,
+      ⊎-elim
+          (λ w. let e = sym byte ∙ w .0 .taken in
+          codes.code-stops _ (text a) _ (byte-inside (text a) _ 92 e (omega arith)) e (sym (w .1 .ensures) ∙ w .2 .taken))
+          (λ w. runs.other-stops _ (text a) _ (λ e. w .0 .left (byte ∙ e)) (sym (w .2 .taken) ∙ w .1 .ensures))
+          (c .if1 .came),
+    )
+
+returns : tie.Need-returns Inv-loop μ-loop
 returns c =
-    let f = c .before .before in
-    let a = f .before .before .args in
-    let e : getD (a .s .now) (f .front-end .result) 0 ≡ 34 = sym (c .before .byte-at .ensures) ∙ c .match .keys1 in
-    let at = f .front-end .ensures in
-    bodies.measures _ 1 (step-in _) (runs.front-passed _ _ _ at) _ (sym (steps.at-quote _ _ _ (byte-inside (a .s .now) _ 34 e (omega arith)) e)) _ refl (runs.front-length _ _ _ at) refl
-
-returns-2 : tie.Need-returns-2
-returns-2 c = search needs
-
-returns-3 : tie.Need-returns-3
-returns-3 c =
-    let f = c .before .before .before in
-    let at = f .front-end .ensures in
-    bodies.measures _ 1 (step-in _) (runs.front-passed _ _ _ at) _ (sym (c .plain-ending .ensures)) _ refl (runs.front-length _ _ _ at) refl
+    let i = c .before .before .before .loop .inv in
+    bodies.measures _ 1 (step-in _) (i .1) _ (sym (c .ending-at .ensures)) _ refl (i .2) refl
 
 pub measure-spec : {M : Type 1} → statement M
 measure-spec =
     tie.close
     (tie.spec
+    Inv-loop
+    μ-loop
+    last-len-requires
+    sub-end
     front-end-requires
+    loop-holds
     byte-at-requires
-    measure-on-requires
-    plain-ending-requires
-    returns
-    returns-2
-    returns-3)
+    code-at-requires
+    code-value-requires
+    value-len-requires
+    add-n
+    code-len-requires
+    add-i
+    loop-less
+    loop-again
+    plain-end-requires
+    sub-n
+    add-n-2
+    loop-less-2
+    loop-again-2
+    ending-at-requires
+    returns)

@@ -6,6 +6,7 @@ use mathlib.Core.List.{List, [], _++_}
 use Prim.Native.Nat.{ℕ, _≤_, _<_, _-_, _+_, _*_}
 use native.Mathlib.Omega.{arith}
 use lib.ListN.{length, getD, take, drop, length-append}
+use Rattle.scan.proofs.Bytes.{byte-inside}
 use Rattle.utf8.proofs.Cuts.{last-le}
 use Rattle.escape_code.specs.Code.{codedLen, codedValue}
 use Rattle.escape.specs.Escape.{bytesOf, Valid}
@@ -16,9 +17,8 @@ use Rattle.body.specs.Code.{Stopped}
 use Rattle.plain_run.specs.Plain.{plainByte}
 use Rattle.body.specs.Step.{piece, stepOf}
 use Rattle.body.proofs.Bodies as bodies
-use Rattle.body.proofs.Codes.{code-step}
+use Rattle.body.proofs.Codes as codes
 use Rattle.body.proofs.Runs as runs
-use Rattle.body.proofs.Strides as strides
 use Rattle.body.proofs.Within.{step-in}
 use Rattle.quoting.specs.Styled.{styledForms}
 use Rattle.quoting.proofs.Styles as styles
@@ -83,7 +83,7 @@ abbrev value : tie.Else2 Inv-loop μ-loop → Unescaped
 value c = codedValue (c .before .code-at .result)
 
 stepped : (c : tie.Else2 Inv-loop μ-loop) → stepOf (kind (turn c)) (drop (turn c .loop .i) (text (turn c))) ≡ piece (size c) (value c)
-stepped c = code-step _ _ _ (c .before .code-at .ensures) (c .if2 .left)
+stepped c = codes.code-step _ _ _ (c .before .code-at .ensures) (c .if2 .left)
 
 room : (c : tie.Else2 Inv-loop μ-loop)
     → (0 < size c) × (turn c .loop .i + size c ≤ length (text (turn c))) × (length (bytesOf (value c)) ≤ size c) × Valid (value c)
@@ -137,8 +137,7 @@ returns c =
     let b = c .before in
     let t = b .before in
     let l = t .before .before in
-    let arm = strides.none-arm _ (text l) _ (slash t) (sym (b .code-at .ensures) ∙ c .if2 .taken) in
-    at-end l (strides.stride-stops _ (l .loop .inv .1) (slash t) 0 (arm .next) refl)
+    at-end l (codes.code-stops _ (text l) _ (byte-inside (text l) _ 92 (slash t) (omega arith)) (slash t) (sym (b .code-at .ensures) ∙ c .if2 .taken))
 
 code-value-requires : tie.Need-code-value-requires Inv-loop μ-loop
 code-value-requires c κs = search needs
@@ -175,7 +174,7 @@ returns-2 c =
     let b = c .before in
     let l = b .before .before .before in
     let o = b .before in
-    at-end l (strides.other-stops _ (text l) _ (λ e. o .if1 .left (o .before .byte-at .ensures ∙ e)) (sym (c .if3 .taken) ∙ b .plain-end .ensures))
+    at-end l (runs.other-stops _ (text l) _ (λ e. o .if1 .left (o .before .byte-at .ensures ∙ e)) (sym (c .if3 .taken) ∙ b .plain-end .ensures))
 
 sub-forms-len : tie.Need-sub-forms-len Inv-loop μ-loop
 sub-forms-len c = counted (c .before) .0

@@ -1,23 +1,27 @@
 -- `body_form::put_body` meets its contract.
 -- Assumes nothing.
 use borrow.Author.Needs.{needs}
-use mathlib.Core.Path.{_≡_, sym, ap, _∙_}
+use mathlib.Core.Path.{_≡_, sym, ap, _∙_, subst}
 use mathlib.Core.List.{List, [], _++_}
 use Prim.Native.Nat.{ℕ, _≤_, _<_, _-_, _+_}
 use native.Mathlib.Omega.{arith}
 use lib.ListN.{length, getD, take, drop, length-append}
 use borrow.Rule.Slice.PartMut.{putMid}
+use Rattle.scan.proofs.Bytes.{byte-inside}
 use Rattle.buffer.specs.Buffer.{Wrote}
 use Rattle.buffer.proofs.Laws as laws
 use Rattle.utf8.proofs.Cuts.{last-le}
+use Rattle.escape.specs.Escape.{bytesOf, Valid}
 use Rattle.escape.specs.declared.Allowed.{Allowed}
+use Rattle.escape.specs.declared.Unescaped.{Unescaped}
+use Rattle.escape_code.specs.Code.{codedLen, codedValue}
 use Rattle.body.specs.Body.{Body, bodyBy, body}
+use Rattle.body.specs.Code.{Stopped}
 use Rattle.plain_run.specs.Plain.{plainByte}
-use Rattle.body.specs.Step.{backslashOf, stepOf}
-use Rattle.body.specs.Stride.{valueIn}
+use Rattle.body.specs.Step.{piece, stepOf}
 use Rattle.body.proofs.Bodies as bodies
+use Rattle.body.proofs.Codes as codes
 use Rattle.body.proofs.Runs as runs
-use Rattle.body.proofs.Strides as strides
 use Rattle.body.proofs.Within.{step-in}
 use Rattle.quoting.specs.Styled.{styledForms}
 use Rattle.quoting.proofs.Styles as styles
@@ -68,6 +72,12 @@ part l {i} {v} p =
 behind : (l : tie.At-loop Inv-loop μ-loop) → l .loop .at ≤ length (l .loop .out)
 behind l = laws.within (l .loop .inv .2) (part l (l .loop .inv .1))
 
+-- where the body ends, the whole form is written
+ended : (l : tie.At-loop Inv-loop μ-loop) → Stopped (stepOf (kind l) (drop (l .loop .i) (text l)))
+    → Wrote (forms l (body (kind l) (text l) .value)) (l .loop .at) (lent l) (l .loop .out)
+ended l stops =
+    subst (λ (v : List ℕ). Wrote (forms l v) (l .loop .at) (lent l) (l .loop .out)) (bodies.whole _ 1 (step-in _) (l .loop .inv .1) stops) (l .loop .inv .2)
+
 -- and so does the form of a piece more
 fits : (l : tie.At-loop Inv-loop μ-loop) (v : List ℕ) {i : ℕ} → bodies.Passed (stepOf (kind l)) (text l) i (so-far l ++ v)
     → length (forms l (so-far l)) + length (forms l v) ≤ length (lent l)
@@ -75,7 +85,7 @@ fits l v p =
     let y = entry l .args .style in
     omega (arith, part l p, ap length (styles.forms-append (y .wide) (y .quote) (so-far l) v), length-append (forms l (so-far l)) (forms l v))
 
--- which is written behind it
+-- which is written after it
 further : (l : tie.At-loop Inv-loop μ-loop) (v : List ℕ) (n : ℕ) (ys : List ℕ) {i : ℕ} → bodies.Passed (stepOf (kind l)) (text l) i (so-far l ++ v)
     → Wrote (forms l v) n (take (length (l .loop .out) - l .loop .at) (drop (l .loop .at) (l .loop .out))) ys
     → Wrote (forms l (so-far l ++ v)) (l .loop .at + n) (lent l) (putMid (l .loop .at) (length (l .loop .out) - l .loop .at) (l .loop .out) ys)
@@ -83,51 +93,39 @@ further l v n ys p w =
     let y = entry l .args .style in
     rw (styles.forms-append (y .wide) (y .quote) (so-far l) v) (laws.behind (l .loop .inv .2) w (fits l v p))
 
--- ---- a backslash
+-- ---- a backslash, and its piece
 
-abbrev turn : tie.Then1 Inv-loop μ-loop → tie.At-loop Inv-loop μ-loop
-turn t = t .before .before
-
-slash : (t : tie.Then1 Inv-loop μ-loop) → getD (text (turn t)) (turn t .loop .i) 0 ≡ 92
+slash : (t : tie.Then1 Inv-loop μ-loop) → let l = t .before .before in getD (text l) (l .loop .i) 0 ≡ 92
 slash t = sym (t .before .byte-at .ensures) ∙ t .if1 .taken
 
-abbrev value : tie.Then1 Inv-loop μ-loop → List ℕ
-value t = valueIn (backslashOf (kind (turn t)) (drop (turn t .loop .i) (text (turn t))))
+abbrev turn : tie.Else2 Inv-loop μ-loop → tie.At-loop Inv-loop μ-loop
+turn c = c .before .before .before .before
 
-stride : (t : tie.Then1 Inv-loop μ-loop) → (j : ℕ) × bodies.Passed (stepOf (kind (turn t))) (text (turn t)) j (so-far (turn t) ++ value t)
-stride t = strides.stride-passed _ (turn t .loop .inv .1) (slash t)
+abbrev size : tie.Else2 Inv-loop μ-loop → ℕ
+size c = codedLen (c .before .code-at .result)
 
-value-fits : (t : tie.Then1 Inv-loop μ-loop)
-    → length (forms (turn t) (so-far (turn t))) + length (forms (turn t) (value t)) ≤ length (lent (turn t))
-value-fits t = fits (turn t) (value t) (stride t .1)
+abbrev value : tie.Else2 Inv-loop μ-loop → Unescaped
+value c = codedValue (c .before .code-at .result)
 
--- what its piece was written as
-abbrev piece : tie.After-struct-known Inv-loop μ-loop → tie.After-put-piece Inv-loop μ-loop
-piece c = c .before .before .before
+stepped : (c : tie.Else2 Inv-loop μ-loop) → stepOf (kind (turn c)) (drop (turn c .loop .i) (text (turn c))) ≡ piece (size c) (value c)
+stepped c = codes.code-step _ _ _ (c .before .code-at .ensures) (c .if2 .left)
 
-abbrev piece-at : tie.After-struct-known Inv-loop μ-loop → tie.Then1 Inv-loop μ-loop
-piece-at c = piece c .before .before
+room : (c : tie.Else2 Inv-loop μ-loop)
+    → (0 < size c) × (turn c .loop .i + size c ≤ length (text (turn c))) × (length (bytesOf (value c)) ≤ size c) × Valid (value c)
+room c = bodies.bounds _ 1 (step-in _) (turn c .loop .inv .1) _ _ (stepped c)
 
-ended : (c : tie.Then2 Inv-loop μ-loop) →
-    let l = turn (piece-at (c .before)) in
-    Wrote (forms l (body (kind l) (text l) .value)) (l .loop .at) (lent l)
-    (putMid (l .loop .at) (length (l .loop .out) - l .loop .at) (l .loop .out) (piece (c .before) .put-piece .last .0))
-ended c =
-    let t = piece-at (c .before) in
-    let l = turn t in
-    let e = piece (c .before) .put-piece .ensures in
-    let z = c .if2 .taken in
-    strides.written-none (laws.behind {q = forms l (value t)} (l .loop .inv .2) (e .1) (value-fits t)) (e .1 .count)
-    (ap (forms l) (strides.stride-none _ (l .loop .inv .1) (slash t) _ (e .0) z))
-    (ap (forms l) (bodies.whole _ 1 (step-in _) (l .loop .inv .1) (strides.stride-stops _ (l .loop .inv .1) (slash t) _ (e .0) z)))
+onward : (c : tie.Else2 Inv-loop μ-loop)
+    → bodies.Passed (stepOf (kind (turn c))) (text (turn c)) (turn c .loop .i + size c) (so-far (turn c) ++ bytesOf (value c))
+onward c = bodies.more _ 1 (step-in _) (turn c .loop .inv .1) _ _ (stepped c)
 
-onward : (c : tie.Else2 Inv-loop μ-loop) →
-    let l = turn (piece-at (c .before)) in
-    let j = piece (c .before) .put-piece .result .next in
-    (l .loop .i < j) × bodies.Passed (stepOf (kind l)) (text l) j (so-far l ++ value (piece-at (c .before)))
-onward c =
-    let t = piece-at (c .before) in
-    strides.stride-more _ (turn t .loop .inv .1) (slash t) _ (piece (c .before) .put-piece .ensures .0) (c .if2 .left)
+-- its form was written
+abbrev read : tie.After-put-value Inv-loop μ-loop → tie.Else2 Inv-loop μ-loop
+read p = p .before .before .before
+
+put : (p : tie.After-put-value Inv-loop μ-loop) →
+    let l = turn (read p) in
+    Wrote (forms l (bytesOf (value (read p)))) (p .put-value .result) (take (length (l .loop .out) - l .loop .at) (drop (l .loop .at) (l .loop .out))) (p .put-value .last .0)
+put p = rw (p .before .code-value .ensures) at (p .put-value .ensures)
 
 -- ---- a run
 
@@ -162,41 +160,67 @@ loop-holds c = ([], bodies.start _ _, laws.nothing _)
 byte-at-requires : tie.Need-byte-at-requires Inv-loop μ-loop
 byte-at-requires c κs = search needs
 
-sub-put-piece : tie.Need-sub-put-piece Inv-loop μ-loop
-sub-put-piece c = behind (turn c)
-
-part-put-piece-start : tie.Need-part-put-piece-start Inv-loop μ-loop
-part-put-piece-start c = behind (turn c)
-
-part-put-piece-end : tie.Need-part-put-piece-end Inv-loop μ-loop
-part-put-piece-end c = search needs
-
-put-piece-requires : tie.Need-put-piece-requires Inv-loop μ-loop
-put-piece-requires c κs =
-    let t = c .before in
-    let l = turn t in
-    (slash t, (omega (arith, entry l .pre .0), rw (l .before .last-len .ensures)), laws.room _ (l .loop .inv .2) (value-fits t))
+code-at-requires : tie.Need-code-at-requires Inv-loop μ-loop
+code-at-requires c κs =
+    let l = c .before .before in
+    (l .loop .inv .1 .within, (omega (arith, entry l .pre .0), rw (l .before .last-len .ensures)))
 
 same-length : tie.Need-same-length Inv-loop μ-loop
-same-length c = laws.wrote-length (ended c) (entry (turn (piece-at (c .before))) .pre .1)
+same-length c = let l = c .before .before .before .before in laws.wrote-length (l .loop .inv .2) (part l (l .loop .inv .1))
 
 returns : tie.Need-returns Inv-loop μ-loop
-returns c = ended c
+returns c =
+    let b = c .before in
+    let t = b .before in
+    let l = t .before .before in
+    ended l (codes.code-stops _ (text l) _ (byte-inside (text l) _ 92 (slash t) (omega arith)) (slash t) (sym (b .code-at .ensures) ∙ c .if2 .taken))
+
+sub-put-value : tie.Need-sub-put-value Inv-loop μ-loop
+sub-put-value c = behind (turn c)
+
+part-put-value-start : tie.Need-part-put-value-start Inv-loop μ-loop
+part-put-value-start c = behind (turn c)
+
+part-put-value-end : tie.Need-part-put-value-end Inv-loop μ-loop
+part-put-value-end c = search needs
+
+code-value-requires : tie.Need-code-value-requires Inv-loop μ-loop
+code-value-requires c κs = search needs
+
+put-value-requires : tie.Need-put-value-requires Inv-loop μ-loop
+put-value-requires c κs =
+    let d = c .before .before in
+    let l = turn d in
+    rw (c .code-value .ensures) (room d .3, laws.room _ (l .loop .inv .2) (fits l (bytesOf (value d)) (onward d)))
 
 add-at : tie.Need-add-at Inv-loop μ-loop
 add-at c =
-    let b = c .before .before in
-    let t = piece-at b in
-    omega (arith, value-fits t, turn t .loop .inv .2 .count, piece b .put-piece .ensures .1 .count, entry (turn t) .good)
+    let p = c .before .before in
+    let d = read p in
+    omega (arith, fits (turn d) (bytesOf (value d)) (onward d), turn d .loop .inv .2 .count, put p .count, entry (turn d) .good)
+
+code-len-requires : tie.Need-code-len-requires Inv-loop μ-loop
+code-len-requires c κs = search needs
+
+add-i : tie.Need-add-i Inv-loop μ-loop
+add-i c =
+    let d = read (c .before .before .before) in
+    omega (arith, room d .1, c .code-len .ensures, entry (turn d) .pre .0)
 
 loop-less : tie.Need-loop-less Inv-loop μ-loop
-loop-less c = let m = onward (c .before) in omega (arith, m .0, m .1 .within)
+loop-less c =
+    let d = read (c .before .before .before) in
+    omega (arith, room d .0, room d .1, c .code-len .ensures)
 
 loop-again : tie.Need-loop-again Inv-loop μ-loop
 loop-again c =
-    let b = c .before .before in
-    let t = piece-at b in
-    (so-far (turn t) ++ value t, onward (c .before) .1, further (turn t) (value t) _ _ (stride t .1) (piece b .put-piece .ensures .1))
+    let p = c .before .before .before in
+    let d = read p in
+    let l = turn d in (
+      so-far l ++ bytesOf (value d),
+      subst (λ (n : ℕ). bodies.Passed (stepOf (kind l)) (text l) (l .loop .i + n) (so-far l ++ bytesOf (value d))) (sym (c .code-len .ensures)) (onward d),
+      further l (bytesOf (value d)) _ _ (onward d) (put p),
+    )
 
 plain-end-requires : tie.Need-plain-end-requires Inv-loop μ-loop
 plain-end-requires c κs = c .before .before .loop .inv .1 .within
@@ -209,8 +233,7 @@ returns-2 c =
     let b = c .before in
     let l = run-from b in
     let o = b .before in
-    let stops = strides.other-stops _ (text l) _ (λ e. o .if1 .left (o .before .byte-at .ensures ∙ e)) (sym (c .if3 .taken) ∙ b .plain-end .ensures) in
-    rw (sym (bodies.whole _ 1 (step-in _) (l .loop .inv .1) stops)) (l .loop .inv .2)
+    ended l (runs.other-stops _ (text l) _ (λ e. o .if1 .left (o .before .byte-at .ensures ∙ e)) (sym (c .if3 .taken) ∙ b .plain-end .ensures))
 
 sub-put-forms : tie.Need-sub-put-forms Inv-loop μ-loop
 sub-put-forms c = behind (run-from (c .before))
@@ -261,13 +284,17 @@ put-body-spec =
     sub-end
     loop-holds
     byte-at-requires
-    sub-put-piece
-    part-put-piece-start
-    part-put-piece-end
-    put-piece-requires
+    code-at-requires
     same-length
     returns
+    sub-put-value
+    part-put-value-start
+    part-put-value-end
+    code-value-requires
+    put-value-requires
     add-at
+    code-len-requires
+    add-i
     loop-less
     loop-again
     plain-end-requires

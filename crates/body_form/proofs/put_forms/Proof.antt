@@ -44,13 +44,13 @@ passed b = take (end b - start b) (drop (start b) (text b))
 counted : (b : tie.After-itself-end Inv-loop μ-loop) → (start b ≤ end b) × (end b ≤ length (text b))
 counted b = let n = counts _ (text b) (start b) [] (end b) (b .before .before .loop .inv .0) (b .itself-end .ensures) in (n .0, n .1)
 
--- a piece behind forms fits, where the two are forms of the slice's front
+-- a piece after forms fits, where the two are forms of the slice's front
 fit : (b : tie.After-itself-end Inv-loop μ-loop) (e : ℕ) (p r : List ℕ) → forms b (take e (text b)) ≡ p ++ r → length p + length r ≤ length (lent b)
 fit b e p r h =
     let y = b .before .before .before .before .before .args .style in
     omega (arith, styles.forms-fit (y .wide) (y .quote) (text b) e p r h, b .before .before .before .before .before .pre)
 
--- the run stands as it is behind the forms so far, and fits there
+-- the run stands as it is after the forms so far, and fits there
 ran : (b : tie.After-itself-end Inv-loop μ-loop) → forms b (take (end b) (text b)) ≡ forms b (take (start b) (text b)) ++ passed b
 ran b = styles.forms-run _ _ (text b) (start b) (end b) (b .itself-end .ensures)
 
@@ -68,7 +68,7 @@ written c =
     let b = d .before .before .before in
     rw (ran b) (laws.behind (b .before .before .loop .inv .1) (d .put-bytes .ensures) (fits b))
 
--- the byte behind it, whose form fits too
+-- the byte after it, whose form fits too
 abbrev run-end : tie.Else1 Inv-loop μ-loop → tie.After-itself-end Inv-loop μ-loop
 run-end c = c .before .before .before .before .before .before
 

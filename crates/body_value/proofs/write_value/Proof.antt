@@ -1,27 +1,28 @@
 -- `body_value::write_value` meets its contract.
 -- Assumes nothing.
 use borrow.Author.Needs.{needs}
-use mathlib.Core.Path.{_≡_, refl, sym, ap, _∙_, subst}
+use mathlib.Core.Path.{_≡_, sym, _∙_, subst}
 use mathlib.Core.List.{List, [], _++_}
 use Prim.Native.Nat.{ℕ, _≤_, _<_, _-_, _+_}
 use native.Mathlib.Omega.{arith}
-use lib.ListN.{length, getD, take, drop, length-append, length-take}
+use lib.ListN.{length, getD, take, drop, length-append}
 use borrow.Rule.Slice.PartMut.{putMid}
-use Rattle.scan.specs.Run.{run}
-use Rattle.scan.proofs.Runs.{run-le}
+use Rattle.scan.proofs.Bytes.{byte-inside}
 use Rattle.buffer.specs.Buffer.{Wrote}
 use Rattle.buffer.proofs.Laws as laws
 use Rattle.utf8.proofs.Cuts.{last-le}
+use Rattle.escape.specs.Escape.{bytesOf, Valid}
 use Rattle.escape.specs.declared.Allowed.{Allowed}
-use Rattle.body.specs.Body.{body}
+use Rattle.escape.specs.declared.Unescaped.{Unescaped}
+use Rattle.escape_code.specs.Code.{codedLen, codedValue}
 use Rattle.plain_run.specs.Plain.{plainByte}
-use Rattle.body.specs.Step.{backslashOf, stepOf}
-use Rattle.body.specs.Stride.{valueIn}
+use Rattle.body.specs.Body.{body}
+use Rattle.body.specs.Code.{Stopped}
+use Rattle.body.specs.Step.{piece, stepOf}
 use Rattle.body.proofs.Within.{step-in}
 use Rattle.body.proofs.Bodies as bodies
+use Rattle.body.proofs.Codes as codes
 use Rattle.body.proofs.Runs as runs
-use Rattle.body.proofs.Strides as strides
-use Rattle.body.proofs.Raws.{take-none}
 use Rattle.body_value.proofs.write_value.Statement.{statement}
 use Rattle.body_value.proofs.write_value.Tie as tie
 
@@ -48,10 +49,19 @@ lent a = entry a .args .out .now
 abbrev so-far : tie.At-loop Inv-loop μ-loop → List ℕ
 so-far a = a .loop .inv .0
 
-behind : (a : tie.At-loop Inv-loop μ-loop) → a .loop .at ≤ length (a .loop .out)
-behind a = laws.within (a .loop .inv .2) (omega (arith, bodies.part _ 1 (step-in _) (a .loop .inv .1), entry a .pre .1))
+part : (a : tie.At-loop Inv-loop μ-loop) → length (so-far a) ≤ length (lent a)
+part a = omega (arith, bodies.part _ 1 (step-in _) (a .loop .inv .1), entry a .pre .1)
 
--- a piece more fits, and is written behind it
+written : (a : tie.At-loop Inv-loop μ-loop) → a .loop .at ≤ length (a .loop .out)
+written a = laws.within (a .loop .inv .2) (part a)
+
+-- where the body ends, its whole value is written
+ended : (a : tie.At-loop Inv-loop μ-loop) → Stopped (stepOf (kind a) (drop (a .loop .i) (text a)))
+    → Wrote (body (kind a) (text a) .value) (a .loop .at) (lent a) (a .loop .out)
+ended a stops =
+    subst (λ (v : List ℕ). Wrote v (a .loop .at) (lent a) (a .loop .out)) (bodies.whole _ 1 (step-in _) (a .loop .inv .1) stops) (a .loop .inv .2)
+
+-- a piece more fits, and is written after it
 module _ (a : tie.At-loop Inv-loop μ-loop) (v : List ℕ) {j : ℕ} (p : bodies.Passed (stepOf (kind a)) (text a) j (so-far a ++ v)) where
   fits : length (so-far a) + length v ≤ length (lent a)
   fits = omega (arith, bodies.part _ 1 (step-in _) p, length-append (so-far a) v, entry a .pre .1)
@@ -63,89 +73,56 @@ module _ (a : tie.At-loop Inv-loop μ-loop) (v : List ℕ) {j : ℕ} (p : bodies
     counts : a .loop .at + n ≤ length (lent a)
     counts = omega (arith, further .count, length-append (so-far a) v, fits)
 
--- ---- a backslash
+-- ---- a backslash, and its piece
 
-abbrev turn : tie.Then1 Inv-loop μ-loop → tie.At-loop Inv-loop μ-loop
-turn t = t .before .before
-
-slash : (t : tie.Then1 Inv-loop μ-loop) → getD (text (turn t)) (turn t .loop .i) 0 ≡ 92
+slash : (t : tie.Then1 Inv-loop μ-loop) → let a = t .before .before in getD (text a) (a .loop .i) 0 ≡ 92
 slash t = sym (t .before .byte-at .ensures) ∙ t .if1 .taken
 
-abbrev value : tie.Then1 Inv-loop μ-loop → List ℕ
-value t = valueIn (backslashOf (kind (turn t)) (drop (turn t .loop .i) (text (turn t))))
+abbrev turn : tie.Else2 Inv-loop μ-loop → tie.At-loop Inv-loop μ-loop
+turn c = c .before .before .before .before
 
-stride : (t : tie.Then1 Inv-loop μ-loop) → (j : ℕ) × bodies.Passed (stepOf (kind (turn t))) (text (turn t)) j (so-far (turn t) ++ value t)
-stride t = strides.stride-passed _ (turn t .loop .inv .1) (slash t)
+abbrev size : tie.Else2 Inv-loop μ-loop → ℕ
+size c = codedLen (c .before .code-at .result)
 
--- what the piece was written as
-abbrev piece : tie.After-struct-known Inv-loop μ-loop → tie.After-put-piece Inv-loop μ-loop
-piece c = c .before .before .before
+abbrev value : tie.Else2 Inv-loop μ-loop → Unescaped
+value c = codedValue (c .before .code-at .result)
 
-abbrev piece-at : tie.After-struct-known Inv-loop μ-loop → tie.Then1 Inv-loop μ-loop
-piece-at c = piece c .before .before
+stepped : (c : tie.Else2 Inv-loop μ-loop) → stepOf (kind (turn c)) (drop (turn c .loop .i) (text (turn c))) ≡ piece (size c) (value c)
+stepped c = codes.code-step _ _ _ (c .before .code-at .ensures) (c .if2 .left)
 
-ended : (c : tie.Then2 Inv-loop μ-loop) →
-    let p = piece (c .before) in
-    let a = turn (piece-at (c .before)) in
-    Wrote (body (kind a) (text a) .value) (a .loop .at) (lent a) (putMid (a .loop .at) (length (a .loop .out) - a .loop .at) (a .loop .out) (p .put-piece .last .0))
-ended c =
-    let p = piece (c .before) in
-    let t = piece-at (c .before) in
-    let a = turn t in
-    let e = p .put-piece .ensures in
-    let z = c .if2 .taken in
-    strides.written-none (further a (value t) (stride t .1) _ _ (e .1)) (e .1 .count)
-    (strides.stride-none _ (a .loop .inv .1) (slash t) _ (e .0) z)
-    (bodies.whole _ 1 (step-in _) (a .loop .inv .1) (strides.stride-stops _ (a .loop .inv .1) (slash t) _ (e .0) z))
+room : (c : tie.Else2 Inv-loop μ-loop)
+    → (0 < size c) × (turn c .loop .i + size c ≤ length (text (turn c))) × (length (bytesOf (value c)) ≤ size c) × Valid (value c)
+room c = bodies.bounds _ 1 (step-in _) (turn c .loop .inv .1) _ _ (stepped c)
 
-onward : (c : tie.Else2 Inv-loop μ-loop) →
-    let a = turn (piece-at (c .before)) in
-    let j = piece (c .before) .put-piece .result .next in
-    (a .loop .i < j) × bodies.Passed (stepOf (kind a)) (text a) j (so-far a ++ value (piece-at (c .before)))
-onward c =
-    let t = piece-at (c .before) in
-    strides.stride-more _ (turn t .loop .inv .1) (slash t) _ (piece (c .before) .put-piece .ensures .0) (c .if2 .left)
+onward : (c : tie.Else2 Inv-loop μ-loop)
+    → bodies.Passed (stepOf (kind (turn c))) (text (turn c)) (turn c .loop .i + size c) (so-far (turn c) ++ bytesOf (value c))
+onward c = bodies.more _ 1 (step-in _) (turn c .loop .inv .1) _ _ (stepped c)
+
+-- what it stands for was written
+abbrev read : tie.After-put-value Inv-loop μ-loop → tie.Else2 Inv-loop μ-loop
+read p = p .before .before .before
+
+put : (p : tie.After-put-value Inv-loop μ-loop) →
+    let a = turn (read p) in
+    Wrote (bytesOf (value (read p))) (p .put-value .result) (take (length (a .loop .out) - a .loop .at) (drop (a .loop .at) (a .loop .out))) (p .put-value .last .0)
+put p = rw (p .before .code-value .ensures) at (p .put-value .ensures)
 
 -- ---- a run
 
-abbrev run-from : tie.Else1 Inv-loop μ-loop → tie.At-loop Inv-loop μ-loop
-run-from t = t .before .before
+abbrev run-from : tie.After-plain-end Inv-loop μ-loop → tie.At-loop Inv-loop μ-loop
+run-from b = b .before .before .before
 
-abbrev size : tie.At-loop Inv-loop μ-loop → ℕ
-size a = run (plainByte (kind a)) (drop (a .loop .i) (text a))
+abbrev passed : tie.After-plain-end Inv-loop μ-loop → List ℕ
+passed b = take (b .plain-end .result - run-from b .loop .i) (drop (run-from b .loop .i) (text (run-from b)))
 
-abbrev passed : tie.At-loop Inv-loop μ-loop → List ℕ
-passed a = take (size a) (drop (a .loop .i) (text a))
+ran : (b : tie.After-plain-end Inv-loop μ-loop)
+    → bodies.Passed (stepOf (kind (run-from b))) (text (run-from b)) (b .plain-end .result) (so-far (run-from b) ++ passed b)
+ran b = runs.passed-to (stepOf (kind (run-from b))) (plainByte (kind (run-from b))) (runs.plain-step _) _ (run-from b .loop .inv .1) (b .plain-end .ensures)
 
-ran : (a : tie.At-loop Inv-loop μ-loop) → bodies.Passed (stepOf (kind a)) (text a) (a .loop .i + size a) (so-far a ++ passed a)
-ran a = runs.passed-run (stepOf (kind a)) (plainByte (kind a)) (runs.plain-step _) (size a) (a .loop .inv .1) refl
-
-passed-length : (a : tie.At-loop Inv-loop μ-loop) → length (passed a) ≡ size a
-passed-length a =
-    length-take (size a) (drop (a .loop .i) (text a)) ∙ omega (arith, run-le (plainByte (kind a)) (drop (a .loop .i) (text a)))
-
-abbrev wrote : tie.After-slice-known3 Inv-loop μ-loop → tie.After-put-next Inv-loop μ-loop
-wrote c = c .before .before
-
-abbrev wrote-at : tie.After-slice-known3 Inv-loop μ-loop → tie.At-loop Inv-loop μ-loop
-wrote-at c = run-from (wrote c .before .before)
-
-counted : (c : tie.After-slice-known3 Inv-loop μ-loop) → wrote c .put-next .result ≡ size (wrote-at c)
-counted c = wrote c .put-next .ensures .count ∙ passed-length (wrote-at c)
-
-ended-2 : (c : tie.Then3 Inv-loop μ-loop) →
-    let a = wrote-at (c .before) in
-    Wrote (body (kind a) (text a) .value) (a .loop .at) (lent a) (putMid (a .loop .at) (length (a .loop .out) - a .loop .at) (a .loop .out) (wrote (c .before) .put-next .last .0))
-ended-2 c =
-    let b = c .before in
-    let a = wrote-at b in
-    let o = wrote b .before .before in
-    let w = wrote b .put-next .ensures in
-    let z : size a ≡ 0 = omega (arith, counted b, c .if3 .taken) in
-    strides.written-none (further a (passed a) (ran a) _ _ w) (w .count)
-    (ap (λ (n : ℕ). take n (drop (a .loop .i) (text a))) z ∙ take-none (drop (a .loop .i) (text a)))
-    (bodies.whole _ 1 (step-in _) (a .loop .inv .1)
-    (strides.other-stops _ (text a) _ (λ e. o .if1 .left (o .before .byte-at .ensures ∙ e)) (omega arith)))
+counted : (b : tie.After-plain-end Inv-loop μ-loop) → (run-from b .loop .i ≤ b .plain-end .result)
+    × (b .plain-end .result ≤ length (text (run-from b)))
+    × (length (so-far (run-from b) ++ passed b) ≡ length (so-far (run-from b)) + (b .plain-end .result - run-from b .loop .i))
+counted b = runs.counts (plainByte (kind (run-from b))) _ _ (so-far (run-from b)) _ (run-from b .loop .inv .1 .within) (b .plain-end .ensures)
 
 last-len-requires : tie.Need-last-len-requires Inv-loop μ-loop
 last-len-requires c κs = search needs
@@ -159,82 +136,122 @@ loop-holds c = ([], bodies.start _ _, laws.nothing _)
 byte-at-requires : tie.Need-byte-at-requires Inv-loop μ-loop
 byte-at-requires c κs = search needs
 
-sub-put-piece : tie.Need-sub-put-piece Inv-loop μ-loop
-sub-put-piece c = behind (turn c)
-
-part-put-piece-start : tie.Need-part-put-piece-start Inv-loop μ-loop
-part-put-piece-start c = behind (turn c)
-
-part-put-piece-end : tie.Need-part-put-piece-end Inv-loop μ-loop
-part-put-piece-end c = search needs
-
-put-piece-requires : tie.Need-put-piece-requires Inv-loop μ-loop
-put-piece-requires c κs =
-    let t = c .before in
-    let a = turn t in
-    (slash t, (entry a .pre .0, rw (a .before .last-len .ensures)), laws.room _ (a .loop .inv .2) (fits a (value t) (stride t .1)))
+code-at-requires : tie.Need-code-at-requires Inv-loop μ-loop
+code-at-requires c κs = let a = c .before .before in (a .loop .inv .1 .within, (entry a .pre .0, rw (a .before .last-len .ensures)))
 
 same-length : tie.Need-same-length Inv-loop μ-loop
-same-length c = laws.wrote-length (ended c) (entry (turn (piece-at (c .before))) .pre .1)
+same-length c = let a = c .before .before .before .before in laws.wrote-length (a .loop .inv .2) (part a)
 
 returns : tie.Need-returns Inv-loop μ-loop
-returns c = ended c
+returns c =
+    let b = c .before in
+    let t = b .before in
+    let a = t .before .before in
+    ended a (codes.code-stops _ (text a) _ (byte-inside (text a) _ 92 (slash t) (omega arith)) (slash t) (sym (b .code-at .ensures) ∙ c .if2 .taken))
+
+sub-put-value : tie.Need-sub-put-value Inv-loop μ-loop
+sub-put-value c = written (turn c)
+
+part-put-value-start : tie.Need-part-put-value-start Inv-loop μ-loop
+part-put-value-start c = written (turn c)
+
+part-put-value-end : tie.Need-part-put-value-end Inv-loop μ-loop
+part-put-value-end c = search needs
+
+code-value-requires : tie.Need-code-value-requires Inv-loop μ-loop
+code-value-requires c κs = search needs
+
+put-value-requires : tie.Need-put-value-requires Inv-loop μ-loop
+put-value-requires c κs =
+    let d = c .before .before in
+    let a = turn d in
+    rw (c .code-value .ensures) (room d .3, laws.room _ (a .loop .inv .2) (fits a (bytesOf (value d)) (onward d)))
 
 add-at : tie.Need-add-at Inv-loop μ-loop
 add-at c =
-    let b = c .before .before in
-    let t = piece-at b in
-    omega (arith, counts (turn t) (value t) (stride t .1) _ _ (piece b .put-piece .ensures .1), entry (turn t) .good)
+    let p = c .before .before in
+    let d = read p in
+    omega (arith, counts (turn d) (bytesOf (value d)) (onward d) _ _ (put p), entry (turn d) .good)
+
+code-len-requires : tie.Need-code-len-requires Inv-loop μ-loop
+code-len-requires c κs = search needs
+
+add-i : tie.Need-add-i Inv-loop μ-loop
+add-i c =
+    let d = read (c .before .before .before) in
+    omega (arith, room d .1, c .code-len .ensures, entry (turn d) .pre .0)
 
 loop-less : tie.Need-loop-less Inv-loop μ-loop
-loop-less c = let m = onward (c .before) in omega (arith, m .0, m .1 .within)
+loop-less c =
+    let d = read (c .before .before .before) in
+    omega (arith, room d .0, room d .1, c .code-len .ensures)
 
 loop-again : tie.Need-loop-again Inv-loop μ-loop
 loop-again c =
-    let b = c .before .before in
-    let t = piece-at b in
-    (so-far (turn t) ++ value t, onward (c .before) .1, further (turn t) (value t) (stride t .1) _ _ (piece b .put-piece .ensures .1))
+    let p = c .before .before .before in
+    let d = read p in
+    let a = turn d in (
+      so-far a ++ bytesOf (value d),
+      subst (λ (n : ℕ). bodies.Passed (stepOf (kind a)) (text a) (a .loop .i + n) (so-far a ++ bytesOf (value d))) (sym (c .code-len .ensures)) (onward d),
+      further a (bytesOf (value d)) (onward d) _ _ (put p),
+    )
 
-sub-put-next : tie.Need-sub-put-next Inv-loop μ-loop
-sub-put-next c = behind (run-from c)
-
-part-put-next-start : tie.Need-part-put-next-start Inv-loop μ-loop
-part-put-next-start c = behind (run-from c)
-
-part-put-next-end : tie.Need-part-put-next-end Inv-loop μ-loop
-part-put-next-end c = search needs
-
-put-next-requires : tie.Need-put-next-requires Inv-loop μ-loop
-put-next-requires c κs =
-    let a = run-from (c .before) in
-    (a .loop .inv .1 .within, laws.room _ (a .loop .inv .2) (omega (arith, fits a (passed a) (ran a), passed-length a)))
+plain-end-requires : tie.Need-plain-end-requires Inv-loop μ-loop
+plain-end-requires c κs = c .before .before .loop .inv .1 .within
 
 same-length-2 : tie.Need-same-length-2 Inv-loop μ-loop
-same-length-2 c = laws.wrote-length (ended-2 c) (entry (wrote-at (c .before)) .pre .1)
+same-length-2 c = let a = run-from (c .before) in laws.wrote-length (a .loop .inv .2) (part a)
 
 returns-2 : tie.Need-returns-2 Inv-loop μ-loop
-returns-2 c = ended-2 c
+returns-2 c =
+    let b = c .before in
+    let a = run-from b in
+    let o = b .before in
+    ended a (runs.other-stops _ (text a) _ (λ e. o .if1 .left (o .before .byte-at .ensures ∙ e)) (sym (c .if3 .taken) ∙ b .plain-end .ensures))
+
+sub-put-bytes : tie.Need-sub-put-bytes Inv-loop μ-loop
+sub-put-bytes c = written (run-from (c .before))
+
+part-put-bytes-start : tie.Need-part-put-bytes-start Inv-loop μ-loop
+part-put-bytes-start c = written (run-from (c .before))
+
+part-put-bytes-end : tie.Need-part-put-bytes-end Inv-loop μ-loop
+part-put-bytes-end c = search needs
+
+sub-put-bytes-2 : tie.Need-sub-put-bytes-2 Inv-loop μ-loop
+sub-put-bytes-2 c = counted (c .before .before) .0
+
+part-put-bytes-start-2 : tie.Need-part-put-bytes-start-2 Inv-loop μ-loop
+part-put-bytes-start-2 c = counted (c .before .before) .0
+
+part-put-bytes-end-2 : tie.Need-part-put-bytes-end-2 Inv-loop μ-loop
+part-put-bytes-end-2 c = counted (c .before .before) .1
+
+put-bytes-requires : tie.Need-put-bytes-requires Inv-loop μ-loop
+put-bytes-requires c κs =
+    let b = c .before .before .before in
+    let a = run-from b in
+    laws.room _ (a .loop .inv .2) (fits a (passed b) (ran b))
 
 add-at-2 : tie.Need-add-at-2 Inv-loop μ-loop
 add-at-2 c =
-    let b = c .before in
-    let a = wrote-at b in
-    omega (arith, counts a (passed a) (ran a) _ _ (wrote b .put-next .ensures), entry a .good)
-
-add-i : tie.Need-add-i Inv-loop μ-loop
-add-i c = let a = wrote-at (c .before) in omega (arith, ran a .within, counted (c .before), entry a .good)
+    let w = c .before .before in
+    let b = w .before .before .before .before in
+    let a = run-from b in
+    omega (arith, counts a (passed b) (ran b) _ _ (w .put-bytes .ensures), entry a .good)
 
 loop-less-2 : tie.Need-loop-less-2 Inv-loop μ-loop
-loop-less-2 c = let a = wrote-at (c .before) in omega (arith, ran a .within, counted (c .before), c .if3 .left)
+loop-less-2 c =
+    let e = c .before .before .before .before .before in
+    let r = counted (e .before) in
+    omega (arith, r .0, r .1, e .if3 .left)
 
 loop-again-2 : tie.Need-loop-again-2 Inv-loop μ-loop
 loop-again-2 c =
-    let b = c .before in
-    let a = wrote-at b in (
-      so-far a ++ passed a,
-      subst (λ (n : ℕ). bodies.Passed (stepOf (kind a)) (text a) (a .loop .i + n) (so-far a ++ passed a)) (sym (counted b)) (ran a),
-      further a (passed a) (ran a) _ _ (wrote b .put-next .ensures),
-    )
+    let w = c .before .before in
+    let b = w .before .before .before .before in
+    let a = run-from b in
+    (so-far a ++ passed b, ran b, further a (passed b) (ran b) _ _ (w .put-bytes .ensures))
 
 pub write-value-spec : {M : Type 1} → statement M
 write-value-spec =
@@ -246,22 +263,29 @@ write-value-spec =
     sub-end
     loop-holds
     byte-at-requires
-    sub-put-piece
-    part-put-piece-start
-    part-put-piece-end
-    put-piece-requires
+    code-at-requires
     same-length
     returns
+    sub-put-value
+    part-put-value-start
+    part-put-value-end
+    code-value-requires
+    put-value-requires
     add-at
+    code-len-requires
+    add-i
     loop-less
     loop-again
-    sub-put-next
-    part-put-next-start
-    part-put-next-end
-    put-next-requires
+    plain-end-requires
     same-length-2
     returns-2
+    sub-put-bytes
+    part-put-bytes-start
+    part-put-bytes-end
+    sub-put-bytes-2
+    part-put-bytes-start-2
+    part-put-bytes-end-2
+    put-bytes-requires
     add-at-2
-    add-i
     loop-less-2
     loop-again-2)

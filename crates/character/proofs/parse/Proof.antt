@@ -1,10 +1,10 @@
 -- `character::parse` meets its contract.
 -- Assumes nothing.
-use mathlib.Core.Path.{_≡_, ap, _∙_}
+use mathlib.Core.Path.{_≡_, sym, ap, _∙_}
 use mathlib.Core.Bool.{cond}
 use borrow.Author.Tests.{not-true, not-false}
 use Rattle.single_quote.specs.Quote.{startFault}
-use Rattle.character.specs.Single.{singleOf, singleAt, readBy}
+use Rattle.character.specs.Single.{singleOf, refusalOf, singleAt, readBy}
 use Rattle.character.proofs.Start.{read-none, read-some}
 use Rattle.character.proofs.Values.{value-fits}
 use borrow.Author.Needs.{needs}
@@ -15,8 +15,7 @@ perr-nowhere-requires : tie.Need-perr-nowhere-requires
 perr-nowhere-requires c κs = search needs
 
 returns : tie.Need-returns
-returns c =
-    let a = c .before .before .before .args in
+returns c = let a = c .before .before .before .args in
     c .perr-nowhere .ensures ∙ read-none (a .q) (a .text .now) (c .before .if1 .taken)
 
 opens-requires : tie.Need-opens-requires
@@ -39,7 +38,7 @@ returns-2 c = rw (by-start (c .before .before), not-true (c .before .before .ope
 parse-impl-requires : tie.Need-parse-impl-requires
 parse-impl-requires c κs = search needs
 
--- behind the quote
+-- after the quote
 by-single : (c : tie.After-parse-impl) →
     let a = c .before .before .before .before .before .args in
     readBy (a .q) (a .text .now) ≡ singleOf (a .q) (c .parse-impl .result)
@@ -48,27 +47,25 @@ by-single c = rw (by-start (c .before .before), not-false (c .before .before .op
 enum-known-lit : tie.Need-enum-known-lit
 enum-known-lit c = search needs
 
+enum-told : tie.Need-enum-told
+enum-told c = search needs
+
+refusal-requires : tie.Need-refusal-requires
+refusal-requires c κs = search needs
+
+returns-3 : tie.Need-returns-3
+returns-3 c = let b = c .before .before .before in
+    let told = c .before .enum-told .given .1 in
+    c .refusal .ensures ∙ ap refusalOf told ∙ ap (singleOf (b .before .before .before .before .before .args .q)) (sym told) ∙ sym (by-single b)
+
 reading-requires : tie.Need-reading-requires
-reading-requires c κs =
-    let b = c .before .before .before in
+reading-requires c κs = let b = c .before .before .before in
     let a = b .before .before .before .before .before .args in
     value-fits (a .q) (a .text .now) (by-single b ∙ ap (singleOf (a .q)) (c .before .lit .given .1))
 
-enum-known-lit-2 : tie.Need-enum-known-lit-2
-enum-known-lit-2 c = search needs
-
-perr-at-requires : tie.Need-perr-at-requires
-perr-at-requires c κs = search needs
-
-returns-3 : tie.Need-returns-3
-returns-3 c =
-    let b = c .before .before in
-    rw (by-single (b .before .before), b .lit .given .1) (c .reading .ensures)
-
 returns-4 : tie.Need-returns-4
-returns-4 c =
-    let b = c .before .before in
-    rw (by-single (b .before .before), b .lit2 .given .1) (c .perr-at .ensures)
+returns-4 c = let b = c .before .before in
+    rw (by-single (b .before .before), b .lit .given .1) (c .reading .ensures)
 
 pub parse-spec : {M : Type 1} → statement M
 parse-spec =
@@ -81,8 +78,8 @@ parse-spec =
     returns-2
     parse-impl-requires
     enum-known-lit
-    reading-requires
-    enum-known-lit-2
-    perr-at-requires
+    enum-told
+    refusal-requires
     returns-3
+    reading-requires
     returns-4)

@@ -35,6 +35,17 @@ by-content c = rw (← c .before .before .offset .ensures, lt-ltb _ _ (c .before
 enum-known-content : tie.Need-enum-known-content
 enum-known-content c = search needs
 
+enum-told : tie.Need-enum-told
+enum-told c = search needs
+
+refused-content-requires : tie.Need-refused-content-requires
+refused-content-requires c κs = search needs
+
+returns-2 : tie.Need-returns-2
+returns-2 c = let b = c .before .before .before in
+    let told = c .before .enum-told .given .1 in
+    rw (c .refused-content .ensures, by-content b, told)
+
 -- and ends in the text
 within : (c : tie.After-known-told) →
     let b = c .before .before .before in
@@ -51,16 +62,9 @@ add-closed c = omega (arith, within c)
 closed-requires : tie.Need-closed-requires
 closed-requires c κs = within c
 
-enum-known-content-2 : tie.Need-enum-known-content-2
-enum-known-content-2 c = search needs
-
-returns-2 : tie.Need-returns-2
-returns-2 c =
-    let b = c .before .before in
-    rw (by-content (b .before .before), b .content .given .1) (c .closed .ensures)
-
 returns-3 : tie.Need-returns-3
-returns-3 c = rw (by-content (c .before .before .before), c .before .content2 .given .1)
+returns-3 c = let b = c .before .before in
+    rw (by-content (b .before .before), b .content .given .1) (c .closed .ensures)
 
 pub parse-impl-spec : {M : Type 1} → statement M
 parse-impl-spec =
@@ -71,8 +75,9 @@ parse-impl-spec =
     returns
     first-requires
     enum-known-content
+    enum-told
+    refused-content-requires
+    returns-2
     add-closed
     closed-requires
-    enum-known-content-2
-    returns-2
     returns-3)

@@ -1,7 +1,7 @@
 -- `desk::keybasket_decode` meets its contract.
 -- Assumes nothing.
 use mathlib.Core.Path.{refl, ap, _∙_}
-use Rattle.desk.specs.Code.{decodeCode}
+use Rattle.desk.specs.Code.{codeOf}
 use borrow.Author.Needs.{needs}
 use Rattle.desk.proofs.keybasket_decode.Statement.{statement}
 use Rattle.desk.proofs.keybasket_decode.Tie as tie
@@ -18,7 +18,7 @@ same-length c = search needs
 returns : tie.Need-returns
 returns c =
     let a = c .before .before .before .decode .ensures in
-    (c .decode-code .ensures ∙ ap decodeCode (a .0), (a .1 .0, refl))
+    (c .decode-code .ensures ∙ ap (codeOf (λ n. n)) (a .0), (a .1 .0, refl))
 
 pub keybasket-decode-spec : {M : Type 1} → statement M
 keybasket-decode-spec =

@@ -18,7 +18,7 @@ same-length c = search needs
 returns : tie.Need-returns
 returns c =
     let a = c .before .before .before .settle .ensures in
-    (c .code .ensures ∙ ap codeOf (a .0), (a .1 .0, refl))
+    (c .code .ensures ∙ ap (codeOf (λ form. form .1)) (a .0), (a .1 .0, refl))
 
 pub keybasket-settle-spec : {M : Type 1} → statement M
 keybasket-settle-spec = tie.close (tie.spec settle-requires code-requires same-length returns)

@@ -2,7 +2,7 @@
 -- Assumes nothing.
 use borrow.Author.Needs.{needs}
 use denote.Enum.Declared.{tagOf}
-use mathlib.Core.Bool.{false, or-false}
+use mathlib.Core.Bool.{false}
 use mathlib.Core.List.{List, [], _∷_}
 use mathlib.Core.Path.{_≡_, refl, sym, ap, _∙_}
 use Prim.Native.Nat.{ℕ}
@@ -19,35 +19,38 @@ use Rattle.form_bound.proofs.surely_fits.Tie as tie
 enum-known-found : tie.Need-enum-known-found
 enum-known-found c = search needs
 
-string-fits-requires : tie.Need-string-fits-requires
-string-fits-requires c κs = sym (ap outcomeOf (c .before .found .given .1)) ∙ c .before .before .before .before .pre
-
-enum-known-found-2 : tie.Need-enum-known-found-2
-enum-known-found-2 c = search needs
-
 sub-bound-fits : tie.Need-sub-bound-fits
-sub-bound-fits c = start _ (sym (ap outcomeOf (c .before .before .found2 .given .1)) ∙ c .before .before .before .before .before .pre)
+sub-bound-fits c = start _ (sym (ap outcomeOf (c .before .before .found .given .1)) ∙ c .before .before .before .before .before .pre)
 
 bound-fits-requires : tie.Need-bound-fits-requires
 bound-fits-requires c κs = search needs
 
-enum-known-found-3 : tie.Need-enum-known-found-3
-enum-known-found-3 c = search needs
+enum-known-found-2 : tie.Need-enum-known-found-2
+enum-known-found-2 c = search needs
 
 sub-bound-fits-2 : tie.Need-sub-bound-fits-2
-sub-bound-fits-2 c = start _ (sym (ap outcomeOf (c .before .before .found3 .given .1)) ∙ c .before .before .before .before .before .pre)
+sub-bound-fits-2 c = start _ (sym (ap outcomeOf (c .before .before .found2 .given .1)) ∙ c .before .before .before .before .before .pre)
 
 bound-fits-requires-2 : tie.Need-bound-fits-requires-2
 bound-fits-requires-2 c κs = search needs
 
+enum-known-found-3 : tie.Need-enum-known-found-3
+enum-known-found-3 c = search needs
+
+sub-bound-fits-3 : tie.Need-sub-bound-fits-3
+sub-bound-fits-3 c = start _ (sym (ap outcomeOf (c .before .before .found3 .given .1)) ∙ c .before .before .before .before .before .pre)
+
+bound-fits-requires-3 : tie.Need-bound-fits-requires-3
+bound-fits-requires-3 c κs = search needs
+
 returns : tie.Need-returns
-returns c = rw (c .before .before .found .given .1) (c .string-fits .ensures)
+returns c = rw (c .before .before .before .found .given .1) (c .bound-fits .ensures)
 
 returns-2 : tie.Need-returns-2
-returns-2 c = rw (c .before .before .before .found2 .given .1, or-false) (c .bound-fits .ensures)
+returns-2 c = rw (c .before .before .before .found2 .given .1) (c .bound-fits2 .ensures)
 
 returns-3 : tie.Need-returns-3
-returns-3 c = rw (c .before .before .before .found3 .given .1, or-false) (c .bound-fits2 .ensures)
+returns-3 c = rw (c .before .before .before .found3 .given .1) (c .bound-fits3 .ensures)
 
 -- the variants that are not strings, by their place among all
 abbrev others : List ℕ
@@ -72,13 +75,14 @@ surely-fits-spec =
     tie.close
     (tie.spec
     enum-known-found
-    string-fits-requires
-    enum-known-found-2
     sub-bound-fits
     bound-fits-requires
-    enum-known-found-3
+    enum-known-found-2
     sub-bound-fits-2
     bound-fits-requires-2
+    enum-known-found-3
+    sub-bound-fits-3
+    bound-fits-requires-3
     returns
     returns-2
     returns-3

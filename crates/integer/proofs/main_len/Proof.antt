@@ -1,7 +1,6 @@
 -- `integer::main_len` meets its contract.
 -- Assumes nothing.
 use mathlib.Core.Path.{_∙_}
-use Rattle.integer.proofs.Bases.{base-ends}
 use borrow.Author.Needs.{needs}
 use Rattle.integer.proofs.main_len.Statement.{statement}
 use Rattle.integer.proofs.main_len.Tie as tie
@@ -12,11 +11,11 @@ enum-told c = search needs
 value-requires : tie.Need-value-requires
 value-requires c κs = search needs
 
-end-digits-requires : tie.Need-end-digits-requires
-end-digits-requires c κs = rw (c .value .ensures) (base-ends (c .before .before .before .args .base) .1)
+run-len-requires : tie.Need-run-len-requires
+run-len-requires c κs = search needs
 
 returns : tie.Need-returns
-returns c = c .end-digits .ensures ∙ rw (c .before .value .ensures)
+returns c = c .run-len .ensures ∙ rw (c .before .value .ensures)
 
 end-dec-digits-requires : tie.Need-end-dec-digits-requires
 end-dec-digits-requires c κs = search needs
@@ -27,4 +26,4 @@ returns-2 c = rw (c .before .enum-told .given .1) (c .end-dec-digits .ensures)
 pub main-len-spec : {M : Type 1} → statement M
 main-len-spec =
     tie.close
-    (tie.spec enum-told value-requires end-digits-requires returns end-dec-digits-requires returns-2)
+    (tie.spec enum-told value-requires run-len-requires returns end-dec-digits-requires returns-2)

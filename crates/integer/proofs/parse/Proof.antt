@@ -1,7 +1,7 @@
 -- `integer::parse` meets its contract.
 -- Assumes nothing.
 use mathlib.Core.Path.{ap, sym, _∙_}
-use Rattle.integer.specs.Integer.{parsedOf}
+use Rattle.integer.specs.Integer.{parsedOf, refusalOf}
 use borrow.Author.Needs.{needs}
 use Rattle.integer.proofs.parse.Statement.{statement}
 use Rattle.integer.proofs.parse.Tie as tie
@@ -12,15 +12,21 @@ parse-lit-requires c κs = search needs
 enum-known-parsed : tie.Need-enum-known-parsed
 enum-known-parsed c = search needs
 
-enum-known-parsed-2 : tie.Need-enum-known-parsed-2
-enum-known-parsed-2 c = search needs
+enum-told : tie.Need-enum-told
+enum-told c = search needs
+
+refusal-requires : tie.Need-refusal-requires
+refusal-requires c κs = search needs
 
 returns : tie.Need-returns
-returns c = ap parsedOf (sym (c .before .parsed .given .1)) ∙ c .before .before .before .parse-lit .ensures
+returns c =
+    let told = c .before .enum-told .given .1 in
+    c .refusal .ensures ∙ ap refusalOf told ∙ ap parsedOf (sym told) ∙ c .before .before .before .parse-lit .ensures
 
 returns-2 : tie.Need-returns-2
-returns-2 c = ap parsedOf (sym (c .before .parsed2 .given .1)) ∙ c .before .before .before .parse-lit .ensures
+returns-2 c = ap parsedOf (sym (c .before .parsed .given .1)) ∙ c .before .before .before .parse-lit .ensures
 
 pub parse-spec : {M : Type 1} → statement M
 parse-spec =
-    tie.close (tie.spec parse-lit-requires enum-known-parsed enum-known-parsed-2 returns returns-2)
+    tie.close
+    (tie.spec parse-lit-requires enum-known-parsed enum-told refusal-requires returns returns-2)

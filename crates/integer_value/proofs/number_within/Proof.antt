@@ -8,7 +8,6 @@ use lib.Dec.{leb}
 use lib.ListN.{length, getD, drop}
 use Rattle.err.specs.Reading.{baseOf}
 use Rattle.parse.specs.Class.{classOf}
-use Rattle.parse.proofs.Classes.{class-most}
 use Rattle.integer.proofs.Bases.{base-ends}
 use Rattle.integer_value.specs.Value.{numberFrom, number}
 use Rattle.integer_value.proofs.Numbers.{number-passed, number-more, number-end, number-above, within-given, within-over}
@@ -18,10 +17,10 @@ use Rattle.integer_value.proofs.number_within.Tie as tie
 
 -- what is read so far is at most the largest, and the whole is what the rest makes of it
 abbrev Inv-loop : tie.InvT-loop
-Inv-loop digits largest by most near n₀ i₀ n i = (i ≤ length digits) × ((n ≤ largest) × (numberFrom by n (drop i digits) ≡ numberFrom by 0 digits))
+Inv-loop digits largest by most n₀ i₀ n i = (i ≤ length digits) × ((n ≤ largest) × (numberFrom by n (drop i digits) ≡ numberFrom by 0 digits))
 
 abbrev μ-loop : tie.MeasureT-loop
-μ-loop digits largest by most near n₀ i₀ n i = length digits - i
+μ-loop digits largest by most n₀ i₀ n i = length digits - i
 
 value-requires : tie.Need-value-requires Inv-loop μ-loop
 value-requires c κs = search needs
@@ -40,9 +39,6 @@ positive c = omega (arith, two c)
 
 div-most : tie.Need-div-most Inv-loop μ-loop
 div-most c = positive c
-
-ten-less-requires : tie.Need-ten-less-requires Inv-loop μ-loop
-ten-less-requires c κs = search needs
 
 loop-holds : tie.Need-loop-holds Inv-loop μ-loop
 loop-holds c = search needs
@@ -63,19 +59,19 @@ loop-again c =
 
 -- the whole number, as it is at the loop's test
 whole : (c : tie.At-loop Inv-loop μ-loop) →
-    let a = c .before .before .before .before .before .args in
-    numberFrom (c .before .before .wide .result) (c .loop .n) (drop (c .loop .i) (a .digits .now)) ≡ number (baseOf (a .base)) (a .digits .now)
+    let a = c .before .before .before .before .args in
+    numberFrom (c .before .wide .result) (c .loop .n) (drop (c .loop .i) (a .digits .now)) ≡ number (baseOf (a .base)) (a .digits .now)
 unfolding number
-whole c = c .loop .inv .1 .1 ∙ rw (base (c .before .before))
+whole c = c .loop .inv .1 .1 ∙ rw (base (c .before))
 
 -- a digit that takes the number above the largest takes the whole above
 over : (c : tie.Else1 Inv-loop μ-loop) →
     let l = c .before .before .before in
-    let a = l .before .before .before .before .before .args in
-    a .largest < l .loop .n * l .before .before .wide .result + classOf (getD (a .digits .now) (l .loop .i) 0) → a .largest < number (baseOf (a .base)) (a .digits .now)
+    let a = l .before .before .before .before .args in
+    a .largest < l .loop .n * l .before .wide .result + classOf (getD (a .digits .now) (l .loop .i) 0) → a .largest < number (baseOf (a .base)) (a .digits .now)
 over c h =
     let l = c .before .before .before in
-    rw (← whole l) (number-above _ _ _ _ _ (positive (l .before .before)) (c .before .before .loop-test .taken) (c .if1 .left) h)
+    rw (← whole l) (number-above _ _ _ _ _ (positive (l .before)) (c .before .before .loop-test .taken) (c .if1 .left) h)
 
 class-of-requires : tie.Need-class-of-requires Inv-loop μ-loop
 class-of-requires c κs = search needs
@@ -85,28 +81,28 @@ wide-requires-2 c κs = search needs
 
 digit : (c : tie.After-wide2 Inv-loop μ-loop) →
     let l = c .before .before .before .before .before in
-    c .wide2 .result ≡ classOf (getD (l .before .before .before .before .before .args .digits .now) (l .loop .i) 0)
+    c .wide2 .result ≡ classOf (getD (l .before .before .before .before .args .digits .now) (l .loop .i) 0)
 digit c = c .wide2 .ensures ∙ c .before .class-of .ensures
 
 is-within-requires : tie.Need-is-within-requires Inv-loop μ-loop
 is-within-requires c κs =
     let l = c .before .before .before .before .before in
-    ((refl, l .before .ten-less .ensures), (two (l .before .before), rw (digit c) (class-most _)))
+    (refl, two (l .before))
 
 -- what the test said of a number with the digit more
 test : (c : tie.After-is-within Inv-loop μ-loop) →
     let l = c .before .before .before .before .before .before in
-    c .is-within .result ≡ leb (l .loop .n * l .before .before .wide .result + c .before .wide2 .result) (l .before .before .before .before .before .args .largest)
+    c .is-within .result ≡ leb (l .loop .n * l .before .wide .result + c .before .wide2 .result) (l .before .before .before .before .args .largest)
 test c = c .is-within .ensures
 
 fits : (c : tie.Else2 Inv-loop μ-loop) →
     let l = c .before .before .before .before .before .before .before in
-    l .loop .n * l .before .before .wide .result + c .before .before .wide2 .result ≤ l .before .before .before .before .before .args .largest
+    l .loop .n * l .before .wide .result + c .before .before .wide2 .result ≤ l .before .before .before .before .args .largest
 fits c = leb-true _ _ (sym (test (c .before)) ∙ not-false _ (c .if2 .left))
 
 exceeds : (c : tie.Then2 Inv-loop μ-loop) →
     let l = c .before .before .before .before .before .before .before in
-    l .before .before .before .before .before .args .largest < l .loop .n * l .before .before .wide .result + c .before .before .wide2 .result
+    l .before .before .before .before .args .largest < l .loop .n * l .before .wide .result + c .before .before .wide2 .result
 exceeds c = leb-false _ _ (sym (test (c .before)) ∙ not-true _ (c .if2 .taken))
 
 returns : tie.Need-returns Inv-loop μ-loop
@@ -140,7 +136,6 @@ number-within-spec =
     value-requires
     wide-requires
     div-most
-    ten-less-requires
     loop-holds
     shared-slice-read-b
     add-i

@@ -1,97 +1,53 @@
 -- `lines::add_hex` meets its contract.
 -- Assumes nothing.
-use Prim.Native.Nat.{_≤_, _-_}
-use mathlib.Core.Path.{_≡_}
-use lib.ListN.{length}
+use native.Mathlib.Omega.{arith}
 use borrow.Author.Needs.{needs}
+use Rattle.lines.proofs.Laws as laws
 use Rattle.lines.proofs.add_hex.Statement.{statement}
 use Rattle.lines.proofs.add_hex.Tie as tie
 
-abbrev Inv-loop : tie.InvT-loop
-Inv-loop line₀ at bytes end₀ i₀ line end i = (length line ≡ length line₀) × (end ≤ length line)
-
-abbrev μ-loop : tie.MeasureT-loop
-μ-loop line₀ at bytes end₀ i₀ line end i = length bytes - i
-
-slice-aggregate-add : tie.Need-slice-aggregate-add Inv-loop μ-loop
+slice-aggregate-add : tie.Need-slice-aggregate-add
 slice-aggregate-add c = search needs
 
-add-requires : tie.Need-add-requires Inv-loop μ-loop
+add-requires : tie.Need-add-requires
 add-requires c κs = search needs
 
-same-length : tie.Need-same-length Inv-loop μ-loop
+same-length : tie.Need-same-length
 same-length c = search needs
 
-returns : tie.Need-returns Inv-loop μ-loop
-returns c = search needs
+returns : tie.Need-returns
+returns c = (rw (laws.hex-none _ (c .before .before .before .before .before .if1 .taken)) (c .before .before .add .ensures), search needs)
 
-loop-holds : tie.Need-loop-holds Inv-loop μ-loop
-loop-holds c = search needs
+slice-aggregate-add-2 : tie.Need-slice-aggregate-add-2
+slice-aggregate-add-2 c = search needs
 
-sub-if2 : tie.Need-sub-if2 Inv-loop μ-loop
-sub-if2 c = search needs
+add-requires-2 : tie.Need-add-requires-2
+add-requires-2 c κs = search needs
 
-same-length-2 : tie.Need-same-length-2 Inv-loop μ-loop
+add-hexes-requires : tie.Need-add-hexes-requires
+add-hexes-requires c κs = search needs
+
+same-length-2 : tie.Need-same-length-2
 same-length-2 c = search needs
 
-returns-2 : tie.Need-returns-2 Inv-loop μ-loop
-returns-2 c = search needs
-
-sub-put-hex : tie.Need-sub-put-hex Inv-loop μ-loop
-sub-put-hex c = search needs
-
-part-put-hex-start : tie.Need-part-put-hex-start Inv-loop μ-loop
-part-put-hex-start c = search needs
-
-part-put-hex-end : tie.Need-part-put-hex-end Inv-loop μ-loop
-part-put-hex-end c = search needs
-
-shared-slice-read-put-hex : tie.Need-shared-slice-read-put-hex Inv-loop μ-loop
-shared-slice-read-put-hex c = search needs
-
-put-hex-requires : tie.Need-put-hex-requires Inv-loop μ-loop
-put-hex-requires c κs = search needs
-
-add-end : tie.Need-add-end Inv-loop μ-loop
-add-end c = search needs
-
-add-i : tie.Need-add-i Inv-loop μ-loop
-add-i c = search needs
-
-loop-less : tie.Need-loop-less Inv-loop μ-loop
-loop-less c = search needs
-
-loop-again : tie.Need-loop-again Inv-loop μ-loop
-loop-again c = search needs
-
-same-length-3 : tie.Need-same-length-3 Inv-loop μ-loop
-same-length-3 c = search needs
-
-returns-3 : tie.Need-returns-3 Inv-loop μ-loop
-returns-3 c = search needs
+returns-2 : tie.Need-returns-2
+returns-2 c =
+    let p = c .before .before .before .before .before .before in
+    let s = p .before .before .before .before .before .before .args .bytes .now in (
+      rw (laws.hex-some s (p .before .before .before .if1 .left)) (laws.added (p .add2 .ensures) (c .before .before .add-hexes .ensures) (search needs)),
+      omega (arith, c .before .before .add-hexes .ensures .count, laws.hexes-length s),
+    )
 
 pub add-hex-spec : {M : Type 1} → statement M
 add-hex-spec =
     tie.close
     (tie.spec
-    Inv-loop
-    μ-loop
     slice-aggregate-add
     add-requires
     same-length
     returns
-    loop-holds
-    sub-if2
+    slice-aggregate-add-2
+    add-requires-2
+    add-hexes-requires
     same-length-2
-    returns-2
-    sub-put-hex
-    part-put-hex-start
-    part-put-hex-end
-    shared-slice-read-put-hex
-    put-hex-requires
-    add-end
-    add-i
-    loop-less
-    loop-again
-    same-length-3
-    returns-3)
+    returns-2)

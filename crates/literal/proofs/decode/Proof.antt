@@ -2,10 +2,11 @@
 -- Assumes nothing.
 use mathlib.Core.Path.{_≡_, refl, sym, ap, _∙_}
 use native.Mathlib.Omega.{arith}
-use Rattle.err.specs.Reading.{outcomeOf}
-use Rattle.literal.specs.Decodes.{kindCoded, decodeAt, bufferAt}
+use Rattle.body.specs.declared.Quoted.{Quoted}
+use Rattle.literal.specs.Decodes.{kindCoded, refusedDecoding, decodeAt, bufferAt}
+use Rattle.literal.specs.Readings.{readAt}
 use Rattle.literal.specs.declared.KindFound.the-variants as found
-use Rattle.literal.proofs.Calls.{no-other-kind, decode-read, buffer-read, string-short, string-is, string-decoded, string-buffer}
+use Rattle.literal.proofs.Calls.{held, string-held, decode-read, buffer-read, string-short, string-is, string-decoded, string-buffer}
 use borrow.Author.Needs.{needs}
 use Rattle.literal.proofs.decode.Statement.{statement}
 use Rattle.literal.proofs.decode.Tie as tie
@@ -21,8 +22,7 @@ enum-told c = search needs
 
 returns : tie.Need-returns
 unfolding decodeAt bufferAt
-returns c =
-    let z = c .before .before .kind-from-code .ensures in
+returns c = let z = c .before .before .kind-from-code .ensures in
     (rw (← z, c .enum-told .given .1), (rw (← z, c .enum-told .given .1), refl))
 
 -- the kind that the code stands for
@@ -32,81 +32,54 @@ coded c = sym (c .before .before .before .kind-from-code .ensures) ∙ c .before
 read-requires : tie.Need-read-requires
 read-requires c κs = search needs
 
+string-in-requires : tie.Need-string-in-requires
+string-in-requires c κs = search needs
+
+-- the reading, by the string or the refusal that it holds
+by-string : (c : tie.After-string-in) →
+    let a = c .before .before .before .before .before .before .before .before .args in
+    (n : _) × (readAt (a .code) (a .text .now) ≡ held n (c .string-in .result))
+by-string c =
+    let r = c .before in
+    let h = string-held _ _ _ (coded (r .before)) (r .read .result) (r .read .ensures .0) in
+    (h .0, h .1 ∙ ap (held (h .0)) (sym (c .string-in .ensures)))
+
+given : (c : tie.After-string-in) (q : Quoted) → c .string-in .result ≡ q →
+    let a = c .before .before .before .before .before .before .before .before .args in
+    readAt (a .code) (a .text .now) ≡ held (by-string c .0) q
+given c q e = by-string c .1 ∙ ap (held (by-string c .0)) e
+
 enum-known-reading : tie.Need-enum-known-reading
 enum-known-reading c = search needs
 
+enum-told-2 : tie.Need-enum-told-2
+enum-told-2 c = search needs
+
+refused-decoding-requires : tie.Need-refused-decoding-requires
+refused-decoding-requires c κs = search needs
+
+returns-2 : tie.Need-returns-2
+returns-2 c = let q = c .before .before .before in
+    let told = c .before .enum-told2 .given .1 in
+    let z = coded (q .before .before) in
+    let is = given q _ told in
+    (rw (decode-read _ _ _ z, is) (c .refused-decoding .ensures ∙ ap refusedDecoding told), (rw (buffer-read _ _ _ z, is), refl))
+
 decode-requires : tie.Need-decode-requires
-decode-requires c κs =
-    let f = c .before .before in
-    let r = f .before .before in
-    let is = sym (r .read .ensures .0) ∙ ap outcomeOf (f .reading .given .1) in
-    (omega (arith, string-short _ _ _ (coded (r .before)) is), string-is _ _ _ (coded (r .before)) is)
-
-enum-known-reading-2 : tie.Need-enum-known-reading-2
-enum-known-reading-2 c = search needs
-
-decode-requires-2 : tie.Need-decode-requires-2
-decode-requires-2 c κs =
-    let f = c .before .before in
-    let r = f .before .before in
-    let is = sym (r .read .ensures .0) ∙ ap outcomeOf (f .reading2 .given .1) in
-    (omega (arith, string-short _ _ _ (coded (r .before)) is), string-is _ _ _ (coded (r .before)) is)
-
-enum-known-reading-3 : tie.Need-enum-known-reading-3
-enum-known-reading-3 c = search needs
-
-decode-requires-3 : tie.Need-decode-requires-3
-decode-requires-3 c κs =
-    let f = c .before .before in
-    let r = f .before .before in
-    let is = sym (r .read .ensures .0) ∙ ap outcomeOf (f .reading3 .given .1) in
-    (omega (arith, string-short _ _ _ (coded (r .before)) is), string-is _ _ _ (coded (r .before)) is)
-
-enum-known-reading-4 : tie.Need-enum-known-reading-4
-enum-known-reading-4 c = search needs
+decode-requires c κs = let q = c .before .before .before .before in
+    let z = coded (q .before .before) in
+    let is = given q _ (c .before .before .reading .given .1) in
+    (omega (arith, string-short _ _ _ z is), string-is _ _ _ z is)
 
 same-length : tie.Need-same-length
 same-length c = search needs
 
-returns-2 : tie.Need-returns-2
-returns-2 c =
-    let d = c .before .before in
-    let f = d .before .before .before in
-    let r = f .before .before in
-    let is = sym (r .read .ensures .0) ∙ ap outcomeOf (f .reading .given .1) in
-    (d .decode .ensures .0 ∙ string-decoded _ _ _ (coded (r .before)) is _, (d .decode .ensures .1 ∙ string-buffer _ _ _ (coded (r .before)) is _, refl))
-
-same-length-2 : tie.Need-same-length-2
-same-length-2 c = search needs
-
 returns-3 : tie.Need-returns-3
-returns-3 c =
-    let d = c .before .before in
-    let f = d .before .before .before in
-    let r = f .before .before in
-    let is = sym (r .read .ensures .0) ∙ ap outcomeOf (f .reading2 .given .1) in
-    (d .decode2 .ensures .0 ∙ string-decoded _ _ _ (coded (r .before)) is _, (d .decode2 .ensures .1 ∙ string-buffer _ _ _ (coded (r .before)) is _, refl))
-
-same-length-3 : tie.Need-same-length-3
-same-length-3 c = search needs
-
-returns-4 : tie.Need-returns-4
-returns-4 c =
-    let d = c .before .before in
-    let f = d .before .before .before in
-    let r = f .before .before in
-    let is = sym (r .read .ensures .0) ∙ ap outcomeOf (f .reading3 .given .1) in
-    (d .decode3 .ensures .0 ∙ string-decoded _ _ _ (coded (r .before)) is _, (d .decode3 .ensures .1 ∙ string-buffer _ _ _ (coded (r .before)) is _, refl))
-
-returns-5 : tie.Need-returns-5
-returns-5 c =
-    let f = c .before in
-    let r = f .before .before in
-    let z = coded (r .before) in
-    (rw (decode-read _ _ _ z, ← r .read .ensures .0, f .reading4 .given .1), (rw (buffer-read _ _ _ z, ← r .read .ensures .0, f .reading4 .given .1), refl))
-
-returns-6 : tie.Need-returns-6
-returns-6 c = absurd (no-other-kind _ _ _ (coded (c .before .before)) (c .before .read .result) (c .before .read .ensures .0) (c .match2 .keys5))
+returns-3 c = let d = c .before .before in
+    let q = d .before .before .before .before .before in
+    let z = coded (q .before .before) in
+    let is = given q _ (d .before .before .before .reading .given .1) in
+    (d .decode .ensures .0 ∙ string-decoded _ _ _ z is _, (d .decode .ensures .1 ∙ string-buffer _ _ _ z is _, refl))
 
 pub decode-spec : {M : Type 1} → statement M
 decode-spec =
@@ -117,18 +90,11 @@ decode-spec =
     enum-told
     returns
     read-requires
+    string-in-requires
     enum-known-reading
-    decode-requires
-    enum-known-reading-2
-    decode-requires-2
-    enum-known-reading-3
-    decode-requires-3
-    enum-known-reading-4
-    same-length
+    enum-told-2
+    refused-decoding-requires
     returns-2
-    same-length-2
-    returns-3
-    same-length-3
-    returns-4
-    returns-5
-    returns-6)
+    decode-requires
+    same-length
+    returns-3)

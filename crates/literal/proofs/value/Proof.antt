@@ -5,8 +5,7 @@ use Rattle.err.specs.Reading.{outcomeOf}
 use Rattle.err.specs.declared.Reading.the-variants as reading
 use Rattle.literal.specs.Readings.{readAt}
 use Rattle.literal.specs.Values.{checkedValue, valueAt}
-use Rattle.literal.proofs.Early.{no-literal-value}
-use Rattle.literal.proofs.Calls.{no-other-integer, value-read, value-ends, value-given}
+use Rattle.literal.proofs.Calls.{value-refused, value-ends, value-given}
 use borrow.Author.Needs.{needs}
 use Rattle.literal.proofs.value.Statement.{statement}
 use Rattle.literal.proofs.value.Tie as tie
@@ -35,8 +34,7 @@ enum-told-2 c = search needs
 
 returns-2 : tie.Need-returns-2
 unfolding valueAt
-returns-2 c =
-    let a = c .before .before .before .before in
+returns-2 c = let a = c .before .before .before .before in
     (rw (← a .before .before .from-code .ensures, a .found .given .1, ← c .before .before .largest .ensures, c .enum-told2 .given .1), refl)
 
 -- the code stands for a type with a largest value
@@ -50,41 +48,30 @@ typed c =
     let a = l .before .before in
     rw (← a .before .before .from-code .ensures, a .found .given .1, ← l .largest .ensures, b .most .given .1)
 
-is-no-literal-requires : tie.Need-is-no-literal-requires
-is-no-literal-requires c κs = search needs
-
-returns-3 : tie.Need-returns-3
-returns-3 c = let b = c .before in (rw (typed (b .before), no-literal-value _ _ (sym (b .is-no-literal .ensures) ∙ c .if1 .taken)), refl)
-
 read-requires : tie.Need-read-requires
 read-requires c κs = search needs
 
 enum-known-reading : tie.Need-enum-known-reading
 enum-known-reading c = search needs
 
+refused-value-requires : tie.Need-refused-value-requires
+refused-value-requires c κs = search needs
+
+returns-3 : tie.Need-returns-3
+returns-3 c = let r = c .before .before in
+    (c .refused-value .ensures ∙ value-refused _ _ (r .read .result) (r .read .ensures .0) (c .before .match3 .keys2) ∙ sym (typed (r .before)), refl)
+
 -- the text reads as this integer
 integer : (c : tie.After-reading) →
-    readAt 2 (c .before .before .before .before .before .before .before .before .before .before .before .before .before .before .args .text .now) ≡ outcomeOf (reading.Integer (c .reading .given .0 .0))
+    readAt 2 (c .before .before .before .before .before .before .before .before .before .before .before .before .args .text .now) ≡ outcomeOf (reading.Integer (c .reading .given .0 .0))
 integer c = sym (c .before .before .read .ensures .0) ∙ ap outcomeOf (c .reading .given .1)
 
 value-of-requires : tie.Need-value-of-requires
 value-of-requires c κs = value-ends 0 _ (integer (c .before))
 
-enum-known-reading-2 : tie.Need-enum-known-reading-2
-enum-known-reading-2 c = search needs
-
 returns-4 : tie.Need-returns-4
-returns-4 c =
-    let r = c .before .before in
-    (rw (typed (r .before .before .before .before .before)) (c .value-of .ensures ∙ value-given _ _ (integer r)), refl)
-
-returns-5 : tie.Need-returns-5
-returns-5 c =
-    let r = c .before .before .before in
-    (rw (typed (r .before .before .before), value-read, ← r .read .ensures .0, c .before .reading2 .given .1), refl)
-
-returns-6 : tie.Need-returns-6
-returns-6 c = absurd (no-other-integer _ (c .before .read .result) (c .before .read .ensures .0) (c .match3 .keys3))
+returns-4 c = let r = c .before .before in
+    (rw (typed (r .before .before .before)) (c .value-of .ensures ∙ value-given _ _ (integer r)), refl)
 
 pub value-spec : {M : Type 1} → statement M
 value-spec =
@@ -98,12 +85,9 @@ value-spec =
     enum-known-most
     enum-told-2
     returns-2
-    is-no-literal-requires
-    returns-3
     read-requires
     enum-known-reading
+    refused-value-requires
+    returns-3
     value-of-requires
-    enum-known-reading-2
-    returns-4
-    returns-5
-    returns-6)
+    returns-4)

@@ -15,7 +15,7 @@ use Rattle.plain_run.proofs.plain_end.Tie as tie
 abbrev near : tie.After-block-end → tie.After-byte-run
 near c = c .before .before .before
 
--- the run behind the first bytes
+-- the run after the first bytes
 count : (c : tie.After-block-end) →
     let b = near c in
     let a = b .before .before .before .args in

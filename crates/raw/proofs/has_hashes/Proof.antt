@@ -17,7 +17,7 @@ use Rattle.raw.proofs.has_hashes.Tie as tie
 abbrev hashes : List ℕ → ℕ → ℕ
 hashes s from = run (only 35) (drop from s)
 
--- j hashes are passed, and the run goes on behind them
+-- j hashes are passed, and the run goes on after them
 abbrev Inv-loop : tie.InvT-loop
 Inv-loop s from h j₀ j = (j ≤ h) × (from + j + hashes s (from + j) ≡ from + hashes s from)
 

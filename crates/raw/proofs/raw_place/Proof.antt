@@ -9,7 +9,7 @@ use Rattle.raw.proofs.Passes.{both, not-both}
 use Rattle.raw.proofs.raw_place.Statement.{statement}
 use Rattle.raw.proofs.raw_place.Tie as tie
 
--- a byte that is no quote with the mark behind it is passed over where a raw body may hold it
+-- a byte that is no quote with the mark after it is passed over where a raw body may hold it
 plain : (c : tie.Else1) → let a = c .before .before .before .args in passes (a .k) (a .mark) (a .b) (a .far) ≡ rawPlain (a .k) (a .b)
 plain c =
     let a = c .before .before .before .args in

@@ -25,7 +25,7 @@ hashes c =
     let a = c .before .before .before .args in
     omega (arith, count c, run-le (only 35) (drop (a .offset) (a .text .now)), length-drop (a .offset) (a .text .now), c .before .before .before .pre)
 
--- and so does the quote behind them
+-- and so does the quote after them
 inner : (c : tie.Else3) → c .before .before .before .before .before .before .before .args .offset + c .before .before .before .before .run-len .result + 1 ≤ length (c .before .before .before .before .before .before .before .args .text .now)
 inner c = omega (arith, hashes (c .before .before .before .before), c .before .before .before .if1 .left)
 

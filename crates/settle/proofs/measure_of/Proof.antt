@@ -8,6 +8,8 @@ use lib.ListN.{length}
 use Rattle.err.specs.Reading.{outcomeOf}
 use Rattle.numbers.specs.Numbers.{suffixIn}
 use Rattle.bare_form.specs.Bare.{len, bareOf, bareBy}
+use Rattle.bare_form.specs.declared.Bare.{Bare}
+use Rattle.settle.specs.Settled.{refusedBare}
 use Rattle.settle.proofs.Forms.{form-inside, measure-refused, measure-long, measure-formed}
 use Rattle.settle.proofs.measure_of.Statement.{statement}
 use Rattle.settle.proofs.measure_of.Tie as tie
@@ -18,16 +20,26 @@ bare-len-requires c κs = search needs
 enum-known-bare : tie.Need-enum-known-bare
 enum-known-bare c = search needs
 
-enum-known-bare-2 : tie.Need-enum-known-bare-2
-enum-known-bare-2 c = search needs
+enum-told : tie.Need-enum-told
+enum-told c = search needs
+
+refused-requires : tie.Need-refused-requires
+refused-requires c κs = search needs
+
+returns : tie.Need-returns
+returns c =
+    let a = c .before .before .before .before .before .args in
+    let told = c .before .enum-told .given .1 in
+    c .refused .ensures ∙ ap (λ (b : Bare). refusedBare (bareOf b)) told
+    ∙ sym (measure-refused (a .text .now) (outcomeOf (a .found)) (sym (c .before .before .before .bare-len .ensures) ∙ ap bareOf told))
 
 suffix-start-requires : tie.Need-suffix-start-requires
 suffix-start-requires c κs = search needs
 
 -- a form is there
 is : (c : tie.After-suffix-start) → let a = c .before .before .before .before .before .before .args in
-    bareBy (a .text .now) (outcomeOf (a .found)) ≡ len (c .before .before .bare2 .given .0 .0)
-is c = sym (c .before .before .before .before .bare-len .ensures) ∙ ap bareOf (c .before .before .bare2 .given .1)
+    bareBy (a .text .now) (outcomeOf (a .found)) ≡ len (c .before .before .bare .given .0 .0)
+is c = sym (c .before .before .before .before .bare-len .ensures) ∙ ap bareOf (c .before .before .bare .given .1)
 
 inside : (c : tie.After-suffix-start) → let a = c .before .before .before .before .before .before .args in
     (suffixIn (outcomeOf (a .found)) ≤ length (a .text .now)) × (length (a .text .now) ≤ 65536)
@@ -39,8 +51,8 @@ sub-rest c = omega (arith, inside c .0, c .suffix-start .ensures)
 sub-if1 : tie.Need-sub-if1
 sub-if1 c = omega (arith, inside c .1)
 
-returns : tie.Need-returns
-returns c =
+returns-2 : tie.Need-returns-2
+returns-2 c =
     let b = c .before in
     let a = b .before .before .before .before .before .before .args in
     sym (measure-long (a .text .now) (outcomeOf (a .found)) (is b) (omega (arith, c .if1 .taken, b .suffix-start .ensures, inside b .1)))
@@ -48,13 +60,8 @@ returns c =
 kind-of-requires : tie.Need-kind-of-requires
 kind-of-requires c κs = search needs
 
-add-t10 : tie.Need-add-t10
-add-t10 c = search needs
-
-returns-2 : tie.Need-returns-2
-returns-2 c =
-    let a = c .before .before .before .before .before .args in
-    sym (measure-refused (a .text .now) (outcomeOf (a .found)) (sym (c .before .before .before .bare-len .ensures) ∙ ap bareOf (c .before .bare .given .1)))
+add-t7 : tie.Need-add-t7
+add-t7 c = search needs
 
 returns-3 : tie.Need-returns-3
 returns-3 c =
@@ -69,12 +76,13 @@ measure-of-spec =
     (tie.spec
     bare-len-requires
     enum-known-bare
-    enum-known-bare-2
+    enum-told
+    refused-requires
+    returns
     suffix-start-requires
     sub-rest
     sub-if1
-    returns
-    kind-of-requires
-    add-t10
     returns-2
+    kind-of-requires
+    add-t7
     returns-3)

@@ -17,7 +17,7 @@ suffix-start-requires : tie.Need-suffix-start-requires
 suffix-start-requires c κs = search needs
 
 put-bare-requires : tie.Need-put-bare-requires
-put-bare-requires c κs = let b = c .before .before .before .before in (b .pre .0, roomy _ _ (b .pre .1), b .pre .2)
+put-bare-requires c κs = let b = c .before .before .before .before in (b .pre .0, roomy _ _ (b .pre .1))
 
 sub-put-bytes : tie.Need-sub-put-bytes
 sub-put-bytes c = laws.within (c .before .before .put-bare .ensures) (roomy _ _ (c .before .before .before .before .before .before .before .pre .1) .room)

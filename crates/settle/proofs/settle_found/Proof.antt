@@ -1,64 +1,79 @@
 -- `settle::settle_found` meets its contract.
 -- Assumes nothing.
 use borrow.Author.Needs.{needs}
-use denote.Enum.Declared.{tagOf}
-use mathlib.Core.List.{List, [], _∷_}
-use mathlib.Core.Path.{_≡_, sym, ap, _∙_}
-use Prim.Native.Nat.{ℕ}
-use native.Mathlib.Omega.{arith}
-use types.Run.{OneOf, miss}
+use borrow.Author.Tests.{not-false}
+use mathlib.Core.Logic.{⊎-elim}
+use mathlib.Core.Path.{sym, ap, _∙_}
+use lib.ListN.{length}
 use Rattle.err.specs.Reading.{outcomeOf}
-use Rattle.err.specs.declared.Reading.{Reading}
-use Rattle.err.specs.declared.Reading.the-variants as reading
-use Rattle.err.proofs.Reading.{the-type}
-use Rattle.numbers.specs.Numbers.{kindIn}
+use Rattle.settle.specs.Settled.{settledOf}
+use Rattle.settle.proofs.Forms.{Ready, formed-fits, surely-ready, settle-refused, settle-small, settle-written}
 use Rattle.settle.proofs.settle_found.Statement.{statement}
 use Rattle.settle.proofs.settle_found.Tie as tie
 
-enum-known-found : tie.Need-enum-known-found
-enum-known-found c = search needs
+surely-fits-requires : tie.Need-surely-fits-requires
+surely-fits-requires c κs = search needs
 
--- the variants that are not integers, by their place among all
-abbrev others : List ℕ
-others = 0 ∷ 1 ∷ 3 ∷ 4 ∷ 5 ∷ 6 ∷ 7 ∷ 8 ∷ []
+measure-of-requires : tie.Need-measure-of-requires
+measure-of-requires c κs = search needs
 
-other : (found : Reading) → OneOf others (tagOf the-type found) → kindIn (outcomeOf found) ≡ 2 → ⊥
-other (reading.Integer lit) o e = miss others _ tt o
-other (reading.Refused k p) o e = omega arith
-other (reading.Bool lit) o e = omega arith
-other (reading.Float lit) o e = omega arith
-other (reading.Char lit) o e = omega arith
-other (reading.Byte lit) o e = omega arith
-other (reading.String lit) o e = omega arith
-other (reading.ByteString lit) o e = omega arith
-other (reading.CString lit) o e = omega arith
+enum-known-measure : tie.Need-enum-known-measure
+enum-known-measure c = search needs
 
-settle-other-requires : tie.Need-settle-other-requires
-settle-other-requires c κs = let b = c .before .before .before .before in (b .pre, other (b .args .found) (c .before .match .keys2))
+enum-told : tie.Need-enum-told
+enum-told c = search needs
+
+returns : tie.Need-returns
+returns c =
+    let told = c .enum-told .given .1 in
+    let m = c .before .before in
+    let a = settle-refused _ _ _ (m .before .before .before .before .before .pre) (sym (ap settledOf told) ∙ m .measure-of .ensures) in
+    (rw told (a .0), a .1)
+
+returns-2 : tie.Need-returns-2
+returns-2 c =
+    let k = c .before .before in
+    let m = k .before .before in
+    let a = settle-small _ _ _ (m .before .before .before .before .before .pre) (sym (ap settledOf (k .measure .given .1)) ∙ m .measure-of .ensures) (c .if2 .taken) in
+    (a .0, a .1)
+
+-- measured or not, the form is there and fits
+fits : (c : tie.Joined1) → let a = c .before .before .before .before .args in Ready (a .text .now) (outcomeOf (a .found)) (length (a .out .now))
+fits c =
+    let b = c .before in
+    ⊎-elim
+    (λ w. formed-fits _ _ (sym (w .1 .ensures) ∙ ap settledOf (w .3 .given .1)) (w .5 .left))
+    (λ w. surely-ready _ _ (b .before .before .before .args .found) (b .before .before .before .pre) (sym (b .surely-fits .ensures) ∙ not-false _ (w .left)))
+    (c .if1 .came)
+
+put-reading-requires : tie.Need-put-reading-requires
+put-reading-requires c κs = let b = c .before .before .before .before .before in (b .pre, fits (c .before) .0)
+
+kind-of-requires : tie.Need-kind-of-requires
+kind-of-requires c κs = search needs
 
 same-length : tie.Need-same-length
 same-length c = search needs
 
-returns : tie.Need-returns
-returns c = search needs
-
-settle-integer-requires : tie.Need-settle-integer-requires
-settle-integer-requires c κs = let f = c .before .before in sym (ap outcomeOf (f .found .given .1)) ∙ f .before .before .before .before .pre
-
-same-length-2 : tie.Need-same-length-2
-same-length-2 c = search needs
-
-returns-2 : tie.Need-returns-2
-returns-2 c = search needs
+returns-3 : tie.Need-returns-3
+returns-3 c =
+    let p = c .before .before .before in
+    let j = p .before .before in
+    let f = fits j in
+    let a = settle-written _ _ _ (j .before .before .before .before .pre) (f .1) (f .0 .room) in
+    (rw (c .kind-of .ensures, p .put-reading .ensures .count) (a .0), p .put-reading .ensures .bytes ∙ a .1)
 
 pub settle-found-spec : {M : Type 1} → statement M
 settle-found-spec =
     tie.close
     (tie.spec
-    enum-known-found
-    settle-other-requires
-    same-length
+    surely-fits-requires
+    measure-of-requires
+    enum-known-measure
+    enum-told
     returns
-    settle-integer-requires
-    same-length-2
-    returns-2)
+    returns-2
+    put-reading-requires
+    kind-of-requires
+    same-length
+    returns-3)

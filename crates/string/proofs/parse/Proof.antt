@@ -1,7 +1,7 @@
 -- `string::parse` meets its contract.
 -- Assumes nothing.
-use mathlib.Core.Path.{sym, ap, _∙_}
-use Rattle.string.specs.String.{parsedOf}
+use mathlib.Core.Path.{ap, sym, _∙_}
+use Rattle.string.specs.String.{parsedOf, refusalOf}
 use borrow.Author.Needs.{needs}
 use Rattle.string.proofs.parse.Statement.{statement}
 use Rattle.string.proofs.parse.Tie as tie
@@ -12,17 +12,22 @@ parse-lit-requires c κs = search needs
 enum-known-lit : tie.Need-enum-known-lit
 enum-known-lit c = search needs
 
+enum-told : tie.Need-enum-told
+enum-told c = search needs
+
+refusal-requires : tie.Need-refusal-requires
+refusal-requires c κs = search needs
+
+returns : tie.Need-returns
+returns c =
+    let told = c .before .enum-told .given .1 in
+    c .refusal .ensures ∙ ap refusalOf told ∙ ap (parsedOf _) (sym told) ∙ c .before .before .before .parse-lit .ensures
+
 reading-requires : tie.Need-reading-requires
 reading-requires c κs = search needs
 
-enum-known-lit-2 : tie.Need-enum-known-lit-2
-enum-known-lit-2 c = search needs
-
-returns : tie.Need-returns
-returns c = c .reading .ensures ∙ ap (parsedOf _) (sym (c .before .before .lit .given .1)) ∙ c .before .before .before .before .parse-lit .ensures
-
 returns-2 : tie.Need-returns-2
-returns-2 c = ap (parsedOf _) (sym (c .before .lit2 .given .1)) ∙ c .before .before .before .parse-lit .ensures
+returns-2 c = c .reading .ensures ∙ ap (parsedOf _) (sym (c .before .before .lit .given .1)) ∙ c .before .before .before .before .parse-lit .ensures
 
 pub parse-spec : {M : Type 1} → statement M
 parse-spec =
@@ -30,7 +35,8 @@ parse-spec =
     (tie.spec
     parse-lit-requires
     enum-known-lit
-    reading-requires
-    enum-known-lit-2
+    enum-told
+    refusal-requires
     returns
+    reading-requires
     returns-2)

@@ -21,16 +21,13 @@ enum-told c = search needs
 offset-requires : tie.Need-offset-requires
 offset-requires c κs = search needs
 
-allowed-requires : tie.Need-allowed-requires
-allowed-requires c κs = search needs
-
 unescape-string-requires : tie.Need-unescape-string-requires
 unescape-string-requires c κs =
-    let e = c .before .before in
+    let e = c .before in
     let f = e .before .before in
     let b = f .before .before .before in
     let a = b .args in (
-      omega (arith, c .before .offset .ensures, opening-inside (a .k) (a .text .now) (told-quoted (a .k) (a .text .now) (f .opening-of .result) (f .opening-of .ensures) (e .enum-told .given .1))),
+      omega (arith, c .offset .ensures, opening-inside (a .k) (a .text .now) (told-quoted (a .k) (a .text .now) (f .opening-of .result) (f .opening-of .ensures) (e .enum-told .given .1))),
       b .pre,
     )
 
@@ -40,15 +37,12 @@ enum-told-2 c = search needs
 offset-requires-2 : tie.Need-offset-requires-2
 offset-requires-2 c κs = search needs
 
-allowed-requires-2 : tie.Need-allowed-requires-2
-allowed-requires-2 c κs = search needs
-
 scan-raw-string-requires : tie.Need-scan-raw-string-requires
 scan-raw-string-requires c κs =
-    let e = c .before .before in
+    let e = c .before in
     let f = e .before .before in
     let a = f .before .before .before .args in
-    omega (arith, c .before .offset2 .ensures, opening-inside (a .k) (a .text .now) (told-raw (a .k) (a .text .now) (f .opening-of .result) (f .opening-of .ensures) (e .enum-told2 .given .1)))
+    omega (arith, c .offset2 .ensures, opening-inside (a .k) (a .text .now) (told-raw (a .k) (a .text .now) (f .opening-of .result) (f .opening-of .ensures) (e .enum-told2 .given .1)))
 
 enum-told-3 : tie.Need-enum-told-3
 enum-told-3 c = search needs
@@ -58,19 +52,17 @@ refused-start-requires c κs = search needs
 
 returns-2 : tie.Need-returns-2
 returns-2 c =
-    let a = c .before in
-    let o = a .before in
+    let o = c .before in
     let f = o .before .before .before in
     rw (read-some _ _ (f .before .if1 .left), ← f .opening-of .ensures, o .before .enum-told .given .1)
-    (rw (← a .allowed .ensures, ← o .offset .ensures) (ap (ofQuote _) (c .unescape-string .ensures)))
+    (rw (← o .offset .ensures) (ap (ofQuote _) (c .unescape-string .ensures)))
 
 returns-3 : tie.Need-returns-3
 returns-3 c =
-    let a = c .before in
-    let o = a .before in
+    let o = c .before in
     let f = o .before .before .before in
     rw (read-some _ _ (f .before .if1 .left), ← f .opening-of .ensures, o .before .enum-told2 .given .1)
-    (rw (← a .allowed2 .ensures, ← o .offset2 .ensures) (ap (ofQuote _) (c .scan-raw-string .ensures)))
+    (rw (← o .offset2 .ensures) (ap (ofQuote _) (c .scan-raw-string .ensures)))
 
 returns-4 : tie.Need-returns-4
 returns-4 c =
@@ -85,11 +77,9 @@ parse-lit-spec =
     opening-of-requires
     enum-told
     offset-requires
-    allowed-requires
     unescape-string-requires
     enum-told-2
     offset-requires-2
-    allowed-requires-2
     scan-raw-string-requires
     enum-told-3
     refused-start-requires

@@ -41,7 +41,7 @@ put-value-requires c κs =
     let p = b .before .pre .0 in
     ((p .0 .0, p .1), laws.room _ (c .before .before .before .put-opening .ensures) (omega (arith, fits b)))
 
--- the value stands behind the opening
+-- the value stands after the opening
 joined : (c : tie.After-put-value) →
     let a = c .before .before .before .before .before .before .before .before .args in
     let o = c .before .before .before .before .put-opening in

@@ -55,18 +55,18 @@ part-rest-start c = search needs
 part-rest-end : tie.Need-part-rest-end
 part-rest-end c = search needs
 
-rest-len-requires : tie.Need-rest-len-requires
-rest-len-requires c κs = search needs
+run-len-requires : tie.Need-run-len-requires
+run-len-requires c κs = search needs
 
 -- where the first byte is good, the rest decides
-by-rest : (c : tie.After-rest-len) →
+by-rest : (c : tie.After-run-len) →
     let s = c .before .before .before .before .before .before .before .before .args .s .now in
-    suffixFault s ≡ cond (eqb (c .rest-len .result) (length (take (length s - 1) (drop 1 s)))) 0 39
+    suffixFault s ≡ cond (eqb (c .run-len .result) (length (take (length s - 1) (drop 1 s)))) 0 39
 unfolding faultFrom
 by-rest c =
     let b = c .before .before in
     let s = b .before .before .before .before .before .before .args .s .now in
-    let n : c .rest-len .result ≡ run suffixRest (drop 1 s) = c .rest-len .ensures ∙ rw part-to-end in
+    let n : c .run-len .result ≡ run suffixRest (drop 1 s) = c .run-len .ensures ∙ rw part-to-end in
     rw (fault-some s (b .before .before .before .before .if1 .left), not-alone (b .before .before), sym (b .before .starts-suffix .ensures) ∙ not-false _ (b .if4 .left), part-to-end, n)
 
 returns-4 : tie.Need-returns-4
@@ -87,6 +87,6 @@ check-suffix-spec =
     sub-rest
     part-rest-start
     part-rest-end
-    rest-len-requires
+    run-len-requires
     returns-4
     returns-5)
