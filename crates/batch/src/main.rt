@@ -6,7 +6,7 @@ ghost use mathlib.Core.Bool.{false};
 ghost use Prim.Native.Nat.{_+_, _*_, _≤_, _<_};
 ghost use lib.ListN.{length};
 ghost use Rattle.buffer.specs.Buffer.{over};
-ghost use Rattle.batch.specs.Record.{numberAt, headLine, Recorded};
+ghost use Rattle.batch.specs.Record.{numberAt, headLine, headBuffer, Recorded, Lent};
 
 fn wide(x: u8) -> usize
     ensures { λ r. ⌜ (r ≡ x) × (r < 256) ⌝ }
@@ -37,6 +37,7 @@ fn bad_record() -> bool
 fn print_record(line: &mut [u8], head: &[u8; 10], text: &[u8], out: &mut [u8])
     requires { ⌜ (numberAt (now head) 2 ≤ length (now out)) × (128 + 2 * length (now out) ≤ length (now line)) ⌝ }
     ensures { λ r. ⌜ now (line .exit) ≡ over (headLine (now (head .entry)) (now (text .entry))) (now (line .entry)) ⌝ }
+    ensures { λ r. ⌜ now (out .exit) ≡ headBuffer (now (head .entry)) (now (text .entry)) (now (out .entry)) ⌝ }
 {
     let lent = number_at(head, 2);
     let end = answers::record_line(line, head[0], head[1], text, &mut out[0..lent]);
@@ -47,6 +48,7 @@ fn print_record(line: &mut [u8], head: &[u8; 10], text: &[u8], out: &mut [u8])
 fn record(line: &mut [u8], head: &mut [u8; 10], text: &mut [u8], out: &mut [u8]) -> bool
     requires { ⌜ 128 + 2 * length (now out) ≤ length (now line) ⌝ }
     ensures { λ r. ⌜ Recorded r (now (head .exit)) (now (text .exit)) (now (line .entry)) (now (line .exit)) ⌝ }
+    ensures { λ r. ⌜ Lent r (now (head .exit)) (now (text .exit)) (now (out .entry)) (now (out .exit)) ⌝ }
 {
     let got = io::read_full(STDIN_FILENO, head);
     if got == 0 {

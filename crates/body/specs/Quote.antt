@@ -27,6 +27,11 @@ abbrev pub quoteOf : Quoted → Quote
 quoteOf (answer.Lit l) = quoted (hashesOf (l .hashes)) (l .«start_suffix») (l .«value_len»)
 quoteOf (answer.Refused k s) = refused (numberOf k) (placeOf s)
 
+-- whether a result is a refusal; serves contracts between functions
+abbrev pub IsRefused : Quoted → Type 0
+IsRefused (answer.Lit l) = ⊥
+IsRefused (answer.Refused k s) = Unit {0}
+
 -- how many bytes close a string: a quote, and a raw string's hashes
 abbrev pub closing : Rawness → ℕ
 closing notRaw = 1

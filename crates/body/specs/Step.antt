@@ -49,10 +49,10 @@ abbrev pub ofEscape : Escaped → Next
 ofEscape (value u n) = piece n u
 ofEscape (bad num p) = stop (refuse num p)
 
--- the refusal of a refused escape; one that stands for a value has none, and 3 without a span stands for it (for a contract between functions)
-abbrev pub refusedEscape : Escaped → Next
-refusedEscape (value u n) = stop (refuse 3 none)
-refusedEscape (bad num p) = stop (refuse num p)
+-- whether an escape is refused; serves a contract between functions
+abbrev pub IsBad : Escaped → Type 0
+IsBad (value u n) = ⊥
+IsBad (bad num p) = Unit {0}
 
 -- 01, Escapes: "A backslash before LF drops itself and all following spaces, tabs and LFs; a text that ends there is 30". s is what stands
 -- after the LF.

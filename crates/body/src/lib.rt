@@ -15,7 +15,7 @@ ghost use Rattle.err.specs.Reading.{hashesOf};
 ghost use Rattle.utf8.specs.Cut.{lastLen};
 ghost use Rattle.escape.specs.Escape.{escapedOf};
 ghost use Rattle.body.specs.Code.{backslashCode, Stopped};
-ghost use Rattle.body.specs.Step.{stop, endOf, nextOf, refusedEscape, lineBreakOf, backslashOf, plainOf, stepOf};
+ghost use Rattle.body.specs.Step.{stop, endOf, nextOf, ofEscape, IsBad, lineBreakOf, backslashOf, plainOf, stepOf};
 ghost use Rattle.body.specs.Body.{body, Measures, Fitting};
 ghost use Rattle.body.specs.Quote.{quoteOf, closing, suffixed, afterEnd, stringOf};
 
@@ -83,11 +83,13 @@ fn line_break(s: &[u8]) -> Step
     Step::Piece(Unescaped::Nothing, n + 2)
 }
 
-// The refusal of an escape ends the body. An escape that stands for a value has none; 3 stands for it, and no caller hands one in.
+// The refusal of an escape ends the body.
 fn refused(e: Escape) -> Step
-    ensures { λ r. ⌜ nextOf r ≡ refusedEscape (escapedOf e) ⌝ }
+    requires { ⌜ IsBad (escapedOf e) ⌝ }
+    ensures { λ r. ⌜ nextOf r ≡ ofEscape (escapedOf e) ⌝ }
 {
     match e {
+        // ruled out by `requires`
         Escape::Value(_, _) => Step::Stop(Ending::Bad(
             ParseErrorKind::InvalidLiteral,
             Span::Nowhere,

@@ -8,8 +8,6 @@ use lib.ListN.{length, getD, drop}
 use Rattle.err.specs.Outcome.{Outcome, refused, accepted, none, between, shift, Ends, value}
 use Rattle.err.specs.Numbers.{numberOf}
 use Rattle.err.specs.Reading.{placeOf}
-use Rattle.err.specs.declared.ParseErrorKind.the-variants.{InvalidLiteral}
-use Rattle.err.specs.declared.Span.the-variants.{Nowhere}
 use Rattle.scan.specs.Run.{run}
 use Rattle.scan.specs.Sets.{except}
 use Rattle.suffix.specs.Suffix.{suffixFault}
@@ -19,8 +17,6 @@ use Rattle.escape.specs.declared.Unescaped.{Unescaped}
 use Rattle.escape.specs.declared.Unescaped.the-variants as unescaped
 use Rattle.single_quote.specs.Quote.{kindOf, offsetOf, allowedIn, unterminated, overlong, opensBy, startFault}
 use Rattle.single_quote.specs.Content.{Quoted, content, fault, plainAt, special, quoteAt}
-use Rattle.single_quote.specs.declared.Inner.{Inner}
-use Rattle.single_quote.specs.declared.Inner.the-variants as inner
 use Rattle.single_quote.specs.declared.Quote.{Quote}
 use Rattle.single_quote.specs.declared.Quote.the-variants.{Char, Byte}
 use Rattle.character.specs.declared.Single.{Single}
@@ -31,10 +27,10 @@ abbrev pub singleOf : Quote → Single → Outcome
 singleOf q (single.Value v start) = accepted (kindOf q) start (value v)
 singleOf q (single.Refused k p) = refused (numberOf k) (placeOf p)
 
--- the refusal of a refused answer; a literal has none, and 3 without a span stands for it
-abbrev pub refusalOf : Single → Outcome
-refusalOf (single.Value v start) = refused 3 none
-refusalOf (single.Refused k p) = refused (numberOf k) (placeOf p)
+-- whether an answer is a refusal; serves a contract between functions
+abbrev pub IsRefused : Single → Type 0
+IsRefused (single.Value v start) = ⊥
+IsRefused (single.Refused k p) = Unit {0}
 
 -- "In kinds 4 to 8 a suffix fault spans the suffix's first byte."
 unfoldable pub suffixedAt : Quote → List ℕ → ℕ → ℕ → Outcome
@@ -61,14 +57,9 @@ abbrev pub escapedBy : ℕ → Escaped → Quoted
 escapedBy at (escape.value u n) = content (scalarOf u) n
 escapedBy at (escape.bad num p) = fault num (shift at p)
 
--- the refusal of a refused escape; an escape that stands for a value has none, and 3 without a span stands for it
-abbrev pub escapeFault : ℕ → Escaped → Quoted
-escapeFault at (escape.value u n) = fault 3 none
-escapeFault at (escape.bad num p) = fault num (shift at p)
-
--- the span of a refused escape ends within m bytes
+-- an escape is refused, and its span ends within m bytes; serves a contract between functions
 abbrev pub FaultEnds : ℕ → Escaped → Type 0
-FaultEnds m (escape.value u n) = Unit {0}
+FaultEnds m (escape.value u n) = ⊥
 FaultEnds m (escape.bad num p) = Ends m p
 
 -- an escape: "in chars and bytes it does" see the text's last character
@@ -83,10 +74,10 @@ firstAt q s at =
     (cond (eqb (getD s at 0) 92) (escapedAt q s at)
     (plainAt q s at)))
 
--- the refusal of content that is refused, as the literal's; good content has none, and 3 without a span stands for it
-abbrev pub contentRefused : Inner → Single
-contentRefused (inner.Value v n) = single.Refused InvalidLiteral Nowhere
-contentRefused (inner.Refused k p) = single.Refused k p
+-- whether content is refused; serves a contract between functions
+abbrev pub IsFault : Quoted → Type 0
+IsFault (content v n) = ⊥
+IsFault (fault num p) = Unit {0}
 
 -- after the content the literal closes; a fault there is the literal's
 abbrev pub closedBy : Quote → List ℕ → ℕ → Quoted → Outcome

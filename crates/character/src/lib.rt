@@ -9,12 +9,13 @@ use scan::ByteSet;
 use single_quote::Inner;
 use single_quote::Quote;
 ghost use mathlib.Core.Path.{_≡_};
-ghost use Prim.Native.Nat.{_-_, _≤_, _<_};
+ghost use mathlib.Core.List.{List};
+ghost use Prim.Native.Nat.{ℕ, _-_, _≤_, _<_};
 ghost use lib.ListN.{length};
 ghost use Rattle.err.specs.Reading.{outcomeOf};
 ghost use Rattle.single_quote.specs.Content.{innerOf};
 ghost use Rattle.escape.specs.Escape.{escapedOf};
-ghost use Rattle.character.specs.Single.{singleOf, refusalOf, suffixedAt, closedAt, scalarOf, FaultEnds, escapeFault, escapedAt, firstAt, contentRefused, singleAt, readBy};
+ghost use Rattle.character.specs.Single.{singleOf, IsRefused, suffixedAt, closedAt, scalarOf, FaultEnds, escapedBy, escapedAt, firstAt, IsFault, closedBy, singleAt, readBy};
 
 // The value and where the suffix starts, or why a text is no such literal.
 pub enum Single {
@@ -64,12 +65,13 @@ fn scalar(u: Unescaped) -> u32
     }
 }
 
-// An escape's refusal, counted from the text's first byte. An escape that stands for a value has none; 3 stands for it, and no caller hands one in.
+// An escape's refusal, counted from the text's first byte.
 fn refused_escape(found: Escape, at: usize) -> Inner
     requires { ⌜ FaultEnds (18446744073709551615 - at) (escapedOf found) ⌝ }
-    ensures { λ r. ⌜ innerOf r ≡ escapeFault at (escapedOf found) ⌝ }
+    ensures { λ r. ⌜ innerOf r ≡ escapedBy at (escapedOf found) ⌝ }
 {
     match found {
+        // ruled out by `requires`
         Escape::Value(_, _) => Inner::Refused(ParseErrorKind::InvalidLiteral, Span::Nowhere),
         Escape::Bad(kind, span) => Inner::Refused(kind, err::offset_span(span, at)),
     }
@@ -108,11 +110,13 @@ fn first(text: &[u8], at: usize, q: Quote) -> Inner
     single_quote::plain(text, at, q)
 }
 
-// The refusal of what stands between the quotes is the literal's. Content that is good has none; 3 stands for it, and no caller hands it in.
+// The refusal of what stands between the quotes is the literal's, whatever the kind and wherever the content starts.
 fn refused_content(content: Inner) -> Single
-    ensures { λ r. ⌜ r ≡ contentRefused content ⌝ }
+    requires { ⌜ IsFault (innerOf content) ⌝ }
+    ensures { λ r. ⌜ ((q : Quote) (s : List ℕ) (at : ℕ) → singleOf q r ≡ closedBy q s at (innerOf content)) ⌝ }
 {
     match content {
+        // ruled out by `requires`
         Inner::Value(_, _) => Single::Refused(ParseErrorKind::InvalidLiteral, Span::Nowhere),
         Inner::Refused(kind, span) => Single::Refused(kind, span),
     }
@@ -133,11 +137,13 @@ fn parse_impl(text: &[u8], q: Quote) -> Single
     closed(text, at + n, value, q)
 }
 
-// The refusal as a reading. A literal has none; 3 stands for it, and no caller hands one in.
+// The refusal as a reading, the same for both kinds.
 fn refusal(lit: Single) -> Reading
-    ensures { λ r. ⌜ outcomeOf r ≡ refusalOf lit ⌝ }
+    requires { ⌜ IsRefused lit ⌝ }
+    ensures { λ r. ⌜ ((q : Quote) → outcomeOf r ≡ singleOf q lit) ⌝ }
 {
     match lit {
+        // ruled out by `requires`
         Single::Value(_, _) => err::perr_nowhere(ParseErrorKind::InvalidLiteral),
         Single::Refused(kind, span) => Reading::Refused(kind, span),
     }

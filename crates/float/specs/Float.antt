@@ -78,7 +78,7 @@ abbrev pub parsedOf : Parsed → Outcome
 parsedOf (parsed.Lit l) = outcomeOf (reading.Float l)
 parsedOf (parsed.Refused k p) = outcomeOf (reading.Refused k p)
 
--- the refusal of a refused answer; a literal has none, and 3 without a span stands for it
-abbrev pub refusalOf : Parsed → Outcome
-refusalOf (parsed.Lit l) = refused 3 none
-refusalOf (parsed.Refused k p) = refused (numberOf k) (placeOf p)
+-- whether an answer is a refusal; serves a contract between functions
+abbrev pub IsRefused : Parsed → Type 0
+IsRefused (parsed.Lit l) = ⊥
+IsRefused (parsed.Refused k p) = Unit {0}

@@ -10,7 +10,7 @@ ghost use mathlib.Core.Path.{_≡_};
 ghost use Prim.Native.Nat.{_≤_, _<_};
 ghost use lib.ListN.{length};
 ghost use Rattle.err.specs.Reading.{outcomeOf};
-ghost use Rattle.float.specs.Float.{parsedOf, refusalOf, notInteger, badFraction, signEnd, noDigit, fractionEnd, exponentEnd, afterNumber, afterInteger, floatRead};
+ghost use Rattle.float.specs.Float.{parsedOf, IsRefused, notInteger, badFraction, signEnd, noDigit, fractionEnd, exponentEnd, afterNumber, afterInteger, floatRead};
 
 // A float literal, or why a text is none.
 pub enum Parsed {
@@ -151,11 +151,13 @@ fn parse_lit(text: &[u8]) -> Parsed
     Parsed::Refused(ParseErrorKind::DoesNotStartWithDigit, Span::Between(0, 1))
 }
 
-// The refusal as a reading. A literal has none; 3 stands for it, and no caller hands one in.
+// The refusal as a reading.
 fn refusal(parsed: Parsed) -> Reading
-    ensures { λ r. ⌜ outcomeOf r ≡ refusalOf parsed ⌝ }
+    requires { ⌜ IsRefused parsed ⌝ }
+    ensures { λ r. ⌜ outcomeOf r ≡ parsedOf parsed ⌝ }
 {
     match parsed {
+        // ruled out by `requires`
         Parsed::Lit(_) => err::perr_nowhere(ParseErrorKind::InvalidLiteral),
         Parsed::Refused(kind, span) => Reading::Refused(kind, span),
     }

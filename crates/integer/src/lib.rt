@@ -14,7 +14,7 @@ ghost use lib.ListN.{length};
 ghost use Rattle.err.specs.Reading.{outcomeOf, baseOf, prefixOf};
 ghost use Rattle.scan.specs.Run.{run};
 ghost use Rattle.parse.specs.Sets.{digit};
-ghost use Rattle.integer.specs.Integer.{baseAt, hasPrefix, Scanned, parsedOf, refusalOf, afterSuffix, integerAt, integerRead};
+ghost use Rattle.integer.specs.Integer.{baseAt, hasPrefix, Scanned, parsedOf, IsRefused, afterSuffix, integerAt, integerRead};
 
 // An integer literal, or why a text is none.
 pub enum Parsed {
@@ -137,11 +137,13 @@ fn parse_lit(text: &[u8]) -> Parsed
     Parsed::Refused(ParseErrorKind::DoesNotStartWithDigit, Span::Between(0, 1))
 }
 
-// The refusal as a reading. A literal has none; 3 stands for it, and no caller hands one in.
+// The refusal as a reading.
 fn refusal(parsed: Parsed) -> Reading
-    ensures { λ r. ⌜ outcomeOf r ≡ refusalOf parsed ⌝ }
+    requires { ⌜ IsRefused parsed ⌝ }
+    ensures { λ r. ⌜ outcomeOf r ≡ parsedOf parsed ⌝ }
 {
     match parsed {
+        // ruled out by `requires`
         Parsed::Lit(_) => err::perr_nowhere(ParseErrorKind::InvalidLiteral),
         Parsed::Refused(kind, span) => Reading::Refused(kind, span),
     }

@@ -41,11 +41,6 @@ stringIn (reading.Byte l) = quoted.Refused InvalidLiteral Nowhere
 stringIn (reading.ByteString l) = quoted.Lit l
 stringIn (reading.CString l) = quoted.Lit l
 
--- the refusal of a refused reading; a literal has none, and 3 without a span stands for it
-abbrev pub refusedDecoding : Quoted → Decode
-refusedDecoding (quoted.Lit l) = withheld 3 none
-refusedDecoding (quoted.Refused k p) = withheld (numberOf k) (placeOf p)
-
 -- ---- by the code
 
 -- "Decoded bytes of kinds 5, 7, 8": the kind of a code

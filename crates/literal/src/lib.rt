@@ -15,13 +15,16 @@ use types::IntegerFound;
 use types::IntegerType;
 use types::Largest;
 ghost use mathlib.Core.Path.{_≡_};
-ghost use Prim.Native.Nat.{_≤_};
+ghost use Prim.Native.Nat.{ℕ, _≤_};
 ghost use lib.ListN.{length};
 ghost use Rattle.integer_value.specs.Value.{valuedOf};
+ghost use Rattle.err.specs.Outcome.{Place};
+ghost use Rattle.err.specs.Answer.{withheld};
 ghost use Rattle.err.specs.Reading.{outcomeOf};
+ghost use Rattle.body.specs.Quote.{refused, quoteOf, IsRefused};
 ghost use Rattle.string.specs.Decode.{decodedOf};
 ghost use Rattle.literal.specs.Readings.{quoteIn, stringKindIn, entryRead, readAt};
-ghost use Rattle.literal.specs.Decodes.{kindCoded, stringIn, refusedDecoding, decodeAt, bufferAt};
+ghost use Rattle.literal.specs.Decodes.{kindCoded, stringIn, decodeAt, bufferAt};
 ghost use Rattle.literal.specs.Values.{refusedValue, valueAt};
 ghost use Rattle.literal.specs.Suffixes.{integerFromSuffix, floatFromSuffix};
 
@@ -157,11 +160,13 @@ fn string_in(found: Reading) -> Quoted
     }
 }
 
-// The refusal of a reading, as that of its decoding. A literal has none; 3 stands for it, and no caller hands one in.
+// The refusal of a reading, as that of its decoding.
 fn refused_decoding(found: Quoted) -> Decoded
-    ensures { λ r. ⌜ decodedOf r ≡ refusedDecoding found ⌝ }
+    requires { ⌜ IsRefused found ⌝ }
+    ensures { λ r. ⌜ ((n : ℕ) (p : Place) → quoteOf found ≡ refused n p → decodedOf r ≡ withheld n p) ⌝ }
 {
     match found {
+        // ruled out by `requires`
         Quoted::Lit(_) => Decoded::Refused(ParseErrorKind::InvalidLiteral, Span::Nowhere),
         Quoted::Refused(kind, span) => Decoded::Refused(kind, span),
     }

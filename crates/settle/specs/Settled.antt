@@ -31,10 +31,10 @@ abbrev pub settledOf : Settled → Settle
 settledOf (settled.Formed k n) = formed k n
 settledOf (settled.Refused k p) = withheld (numberOf k) (placeOf p)
 
--- the refusal of a measure without the suffix; a length has none, and 3 without a span stands for it (for a contract between functions)
-abbrev pub refusedBare : BareLength → Settle
-refusedBare (len n) = withheld 3 none
-refusedBare (bad n p) = withheld n p
+-- whether a measure without the suffix is refused; serves a contract between functions
+abbrev pub IsBad : BareLength → Type 0
+IsBad (len n) = ⊥
+IsBad (bad n p) = Unit {0}
 
 -- ---- the measure
 

@@ -6,11 +6,13 @@ use err::Reading;
 use err::Span;
 ghost use mathlib.Core.Path.{_≡_};
 ghost use lib.ListN.{length};
+ghost use Prim.Native.Nat.{ℕ};
+ghost use Rattle.err.specs.Outcome.{Place};
 ghost use Rattle.err.specs.Reading.{outcomeOf};
 ghost use Rattle.buffer.specs.Buffer.{Wrote};
 ghost use Rattle.literal.specs.Readings.{readAt};
-ghost use Rattle.bare_form.specs.Bare.{bareOf};
-ghost use Rattle.settle.specs.Settled.{settledOf, refusedBare, measureOf, measureAt, settleAt, bufferAt, formBy, Fits};
+ghost use Rattle.bare_form.specs.Bare.{bad, bareOf};
+ghost use Rattle.settle.specs.Settled.{withheld, settledOf, IsBad, measureOf, measureAt, settleAt, bufferAt, formBy, Fits};
 
 // A form's kind and length, or why there is none.
 pub enum Settled {
@@ -18,11 +20,13 @@ pub enum Settled {
     Refused(ParseErrorKind, Span),
 }
 
-// The refusal of a measure without the suffix. A length has none; 3 stands for it, and no caller hands one in.
+// The refusal of a measure without the suffix.
 fn refused(bare: Bare) -> Settled
-    ensures { λ r. ⌜ settledOf r ≡ refusedBare (bareOf bare) ⌝ }
+    requires { ⌜ IsBad (bareOf bare) ⌝ }
+    ensures { λ r. ⌜ ((n : ℕ) (p : Place) → bareOf bare ≡ bad n p → settledOf r ≡ withheld n p) ⌝ }
 {
     match bare {
+        // ruled out by `requires`
         Bare::Len(_) => Settled::Refused(ParseErrorKind::InvalidLiteral, Span::Nowhere),
         Bare::Refused(kind, span) => Settled::Refused(kind, span),
     }

@@ -57,11 +57,6 @@ ofQuote k (quote.refused n p) = refused n p
 abbrev pub parsedOf : Allowed → Quoted → Outcome
 parsedOf k q = ofQuote k (quoteOf q)
 
--- the refusal of a refused answer; a literal has none, and 3 without a span stands for it
-abbrev pub refusalOf : Quoted → Outcome
-refusalOf (quoted.Lit l) = refused 3 none
-refusalOf (quoted.Refused n p) = refused (numberOf n) (placeOf p)
-
 abbrev pub readBy : Allowed → Opening → List ℕ → Outcome
 readBy k opening.Quoted s = ofQuote k (stringOf k (offsetOf k) s)
 readBy k opening.Raw s = ofQuote k (rawOf k (offsetOf k) s)

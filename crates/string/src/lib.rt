@@ -11,7 +11,8 @@ ghost use Prim.Native.Nat.{_≤_, _<_};
 ghost use lib.ListN.{length};
 ghost use Rattle.err.specs.Reading.{outcomeOf};
 ghost use Rattle.buffer.specs.Buffer.{Wrote};
-ghost use Rattle.string.specs.String.{offsetOf, openingBy, openingAt, startFault, parsedOf, refusalOf, stringRead, stringValue};
+ghost use Rattle.body.specs.Quote.{IsRefused};
+ghost use Rattle.string.specs.String.{offsetOf, openingBy, openingAt, startFault, parsedOf, stringRead, stringValue};
 ghost use Rattle.string.specs.Inner.{innerOf};
 ghost use Rattle.string.specs.Decode.{decodedOf, stringDecoded, bufferAfter};
 
@@ -108,11 +109,13 @@ fn parse_lit(text: &[u8], k: Allowed) -> Quoted
     }
 }
 
-// The refusal as a reading. A literal has none; 3 stands for it, and no caller hands one in.
+// The refusal as a reading, the same for each kind.
 fn refusal(lit: Quoted) -> Reading
-    ensures { λ r. ⌜ outcomeOf r ≡ refusalOf lit ⌝ }
+    requires { ⌜ IsRefused lit ⌝ }
+    ensures { λ r. ⌜ ((k : Allowed) → outcomeOf r ≡ parsedOf k lit) ⌝ }
 {
     match lit {
+        // ruled out by `requires`
         Quoted::Lit(_) => err::perr_nowhere(ParseErrorKind::InvalidLiteral),
         Quoted::Refused(kind, span) => Reading::Refused(kind, span),
     }

@@ -5,7 +5,7 @@ use Prim.Native.Nat.{_-_}
 use native.Mathlib.Omega.{arith}
 use lib.ListN.{length, take, length-take}
 use Rattle.lines.proofs.Laws as lines
-use Rattle.batch.specs.Record.{numberAt, headLine}
+use Rattle.batch.specs.Record.{numberAt, headLine, headBuffer}
 use borrow.Author.Needs.{needs}
 use Rattle.batch.proofs.print_record.Statement.{statement}
 use Rattle.batch.proofs.print_record.Tie as tie
@@ -50,13 +50,14 @@ same-length-2 : tie.Need-same-length-2
 same-length-2 c = search needs
 
 returns : tie.Need-returns
-unfolding headLine
+unfolding headLine headBuffer
 returns c = let b = c .before .before .before .before .before .before .before in
     let s = b .before .before .before .before .before .before .before .before .before in
     let first = b .before .before .before .before .before .number-at in
     let lent : length (take (first .result - 0) (s .args .out .now)) ≡ numberAt (s .args .head .now) 2 =
     omega (arith, length-take (first .result - 0) (s .args .out .now), first .ensures, s .pre .0) in
-    b .record-line .ensures .0 .bytes ∙ rw lent
+    let front : first .result - 0 ≡ numberAt (s .args .head .now) 2 = omega (arith, first .ensures) in
+    (b .record-line .ensures .0 .bytes ∙ rw lent, rw (b .record-line .ensures .1, lent, front))
 
 pub print-record-spec : {M : Type 1} → statement M
 print-record-spec =

@@ -1,6 +1,6 @@
 -- `batch::record` meets its contract.
 -- Assumes nothing.
-use mathlib.Core.Path.{_≡_, _∙_}
+use mathlib.Core.Path.{_≡_, refl, _∙_}
 use Prim.Native.Nat.{_-_}
 use native.Mathlib.Omega.{arith}
 use borrow.Author.Needs.{needs}
@@ -17,7 +17,7 @@ bad-record-requires : tie.Need-bad-record-requires
 bad-record-requires c κs = search needs
 
 returns-2 : tie.Need-returns-2
-returns-2 c = rw (c .bad-record .ensures)
+returns-2 c = rw (c .bad-record .ensures) (refl, refl)
 
 number-at-requires : tie.Need-number-at-requires
 number-at-requires c κs = search needs
@@ -29,13 +29,13 @@ bad-record-requires-2 : tie.Need-bad-record-requires-2
 bad-record-requires-2 c κs = search needs
 
 returns-3 : tie.Need-returns-3
-returns-3 c = rw (c .bad-record2 .ensures)
+returns-3 c = rw (c .bad-record2 .ensures) (refl, refl)
 
 bad-record-requires-3 : tie.Need-bad-record-requires-3
 bad-record-requires-3 c κs = search needs
 
 returns-4 : tie.Need-returns-4
-returns-4 c = rw (c .bad-record3 .ensures)
+returns-4 c = rw (c .bad-record3 .ensures) (refl, refl)
 
 sub-read-full : tie.Need-sub-read-full
 sub-read-full c = search needs
@@ -56,7 +56,7 @@ same-length : tie.Need-same-length
 same-length c = search needs
 
 returns-5 : tie.Need-returns-5
-returns-5 c = rw (c .bad-record4 .ensures)
+returns-5 c = rw (c .bad-record4 .ensures) (refl, refl)
 
 sub-print-record : tie.Need-sub-print-record
 sub-print-record c = search needs

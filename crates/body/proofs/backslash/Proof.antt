@@ -1,7 +1,7 @@
 -- `body::backslash` meets its contract.
 -- Assumes nothing.
 use borrow.Author.Needs.{needs}
-use mathlib.Core.Path.{_≡_, sym, ap, _∙_}
+use mathlib.Core.Path.{_≡_, sym, ap, subst, _∙_}
 use Prim.Native.Nat.{ℕ, _-_}
 use native.Mathlib.Omega.{arith}
 use lib.ListN.{length, take}
@@ -11,7 +11,7 @@ use Rattle.utf8.specs.Cut.{front}
 use Rattle.utf8.proofs.Cuts.{last-le}
 use Rattle.escape.specs.Escape.{escapedOf, escapeOf}
 use Rattle.escape.specs.declared.Escape.{Escape}
-use Rattle.body.specs.Step.{ofEscape, refusedEscape, backslashOf}
+use Rattle.body.specs.Step.{ofEscape, IsBad, backslashOf}
 use Rattle.body.proofs.Steps as steps
 use Rattle.body.proofs.backslash.Statement.{statement}
 use Rattle.body.proofs.backslash.Tie as tie
@@ -55,12 +55,10 @@ enum-told : tie.Need-enum-told
 enum-told c = search needs
 
 refused-requires : tie.Need-refused-requires
-refused-requires c κs = search needs
+refused-requires c κs = subst (λ (x : Escape). IsBad (escapedOf x)) (sym (c .enum-told .given .1)) tt
 
 returns-2 : tie.Need-returns-2
-returns-2 c =
-    let told = ap escapedOf (c .before .enum-told .given .1) in
-    c .refused .ensures ∙ ap refusedEscape told ∙ ap ofEscape (sym told) ∙ found (c .before .before .before)
+returns-2 c = c .refused .ensures ∙ found (c .before .before .before)
 
 returns-3 : tie.Need-returns-3
 returns-3 c = sym (ap (λ (x : Escape). ofEscape (escapedOf x)) (c .before .e .given .1)) ∙ found (c .before .before .before)

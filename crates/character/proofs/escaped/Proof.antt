@@ -8,7 +8,7 @@ use Rattle.scan.proofs.Parts.{part-to-end}
 use Rattle.escape.specs.declared.Allowed.{Allowed}
 use Rattle.escape.specs.Escape.{escapedOf, escapeOf}
 use Rattle.single_quote.specs.Quote.{allowedIn}
-use Rattle.character.specs.Single.{FaultEnds, escapeFault, escapedBy, escapedAt}
+use Rattle.character.specs.Single.{FaultEnds, escapedBy, escapedAt}
 use Rattle.character.proofs.Within.{escape-span}
 use borrow.Author.Needs.{needs}
 use Rattle.character.proofs.escaped.Statement.{statement}
@@ -59,10 +59,7 @@ refused-escape-requires c κs = let b = c .before .before in
     (escape-span _ _ _ (b .before .before .before .before .pre) 18446744073709551615 _ _ (sym told ∙ by-escape b) (omega arith))
 
 returns : tie.Need-returns
-returns c = let b = c .before .before .before in
-    let a = b .before .before .before .before .args in
-    let told = ap escapedOf (c .before .enum-told .given .1) in
-    c .refused-escape .ensures ∙ ap (escapeFault (a .at)) told ∙ ap (escapedBy (a .at)) (sym told) ∙ sym (escaped-is b)
+returns c = c .refused-escape .ensures ∙ sym (escaped-is (c .before .before .before))
 
 scalar-requires : tie.Need-scalar-requires
 scalar-requires c κs = search needs

@@ -1,10 +1,10 @@
 -- `character::parse` meets its contract.
 -- Assumes nothing.
-use mathlib.Core.Path.{_≡_, sym, ap, _∙_}
+use mathlib.Core.Path.{_≡_, sym, ap, subst, _∙_}
 use mathlib.Core.Bool.{cond}
 use borrow.Author.Tests.{not-true, not-false}
 use Rattle.single_quote.specs.Quote.{startFault}
-use Rattle.character.specs.Single.{singleOf, refusalOf, singleAt, readBy}
+use Rattle.character.specs.Single.{singleOf, IsRefused, singleAt, readBy}
 use Rattle.character.proofs.Start.{read-none, read-some}
 use Rattle.character.proofs.Values.{value-fits}
 use borrow.Author.Needs.{needs}
@@ -51,12 +51,10 @@ enum-told : tie.Need-enum-told
 enum-told c = search needs
 
 refusal-requires : tie.Need-refusal-requires
-refusal-requires c κs = search needs
+refusal-requires c κs = subst IsRefused (sym (c .enum-told .given .1)) tt
 
 returns-3 : tie.Need-returns-3
-returns-3 c = let b = c .before .before .before in
-    let told = c .before .enum-told .given .1 in
-    c .refusal .ensures ∙ ap refusalOf told ∙ ap (singleOf (b .before .before .before .before .before .args .q)) (sym told) ∙ sym (by-single b)
+returns-3 c = c .refusal .ensures _ ∙ sym (by-single (c .before .before .before))
 
 reading-requires : tie.Need-reading-requires
 reading-requires c κs = let b = c .before .before .before in

@@ -1,12 +1,13 @@
 -- `character::parse_impl` meets its contract.
 -- Assumes nothing.
-use mathlib.Core.Path.{_≡_, sym, ap, _∙_}
+use mathlib.Core.Path.{_≡_, sym, ap, subst, _∙_}
 use Prim.Native.Nat.{_+_, _≤_}
 use native.Mathlib.Omega.{arith}
 use lib.ListN.{length}
 use borrow.Author.Tests.{lt-ltb, le-ltb}
 use Rattle.single_quote.specs.Content.{innerOf}
-use Rattle.character.specs.Single.{closedBy, singleAt}
+use Rattle.single_quote.specs.declared.Inner.{Inner}
+use Rattle.character.specs.Single.{IsFault, closedBy, singleAt}
 use Rattle.character.proofs.Within.{content-ends}
 use borrow.Author.Needs.{needs}
 use Rattle.character.proofs.parse_impl.Statement.{statement}
@@ -39,12 +40,10 @@ enum-told : tie.Need-enum-told
 enum-told c = search needs
 
 refused-content-requires : tie.Need-refused-content-requires
-refused-content-requires c κs = search needs
+refused-content-requires c κs = subst (λ (i : Inner). IsFault (innerOf i)) (sym (c .enum-told .given .1)) tt
 
 returns-2 : tie.Need-returns-2
-returns-2 c = let b = c .before .before .before in
-    let told = c .before .enum-told .given .1 in
-    rw (c .refused-content .ensures, by-content b, told)
+returns-2 c = c .refused-content .ensures _ _ _ ∙ sym (by-content (c .before .before .before))
 
 -- and ends in the text
 within : (c : tie.After-known-told) →

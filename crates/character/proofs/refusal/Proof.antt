@@ -1,7 +1,7 @@
 -- `character::refusal` meets its contract.
 -- Assumes nothing.
-use mathlib.Core.Path.{sym, ap, _∙_}
-use Rattle.character.specs.Single.{refusalOf}
+use mathlib.Core.Path.{sym, ap, subst}
+use Rattle.character.specs.Single.{singleOf, IsRefused}
 use borrow.Author.Needs.{needs}
 use Rattle.character.proofs.refusal.Statement.{statement}
 use Rattle.character.proofs.refusal.Tie as tie
@@ -16,10 +16,10 @@ enum-known-lit : tie.Need-enum-known-lit
 enum-known-lit c = search needs
 
 returns : tie.Need-returns
-returns c = c .perr-nowhere .ensures ∙ sym (ap refusalOf (c .before .enum-told .given .1))
+returns c = absurd (subst IsRefused (c .before .enum-told .given .1) (c .before .before .before .pre))
 
 returns-2 : tie.Need-returns-2
-returns-2 c = sym (ap refusalOf (c .before .lit .given .1))
+returns-2 c q = sym (ap (singleOf q) (c .before .lit .given .1))
 
 pub refusal-spec : {M : Type 1} → statement M
 refusal-spec =

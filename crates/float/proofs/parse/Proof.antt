@@ -1,7 +1,7 @@
 -- `float::parse` meets its contract.
 -- Assumes nothing.
-use mathlib.Core.Path.{ap, sym, _∙_}
-use Rattle.float.specs.Float.{parsedOf, refusalOf}
+use mathlib.Core.Path.{ap, sym, subst, _∙_}
+use Rattle.float.specs.Float.{parsedOf, IsRefused}
 use borrow.Author.Needs.{needs}
 use Rattle.float.proofs.parse.Statement.{statement}
 use Rattle.float.proofs.parse.Tie as tie
@@ -16,12 +16,10 @@ enum-told : tie.Need-enum-told
 enum-told c = search needs
 
 refusal-requires : tie.Need-refusal-requires
-refusal-requires c κs = search needs
+refusal-requires c κs = subst IsRefused (sym (c .enum-told .given .1)) tt
 
 returns : tie.Need-returns
-returns c =
-    let told = c .before .enum-told .given .1 in
-    c .refusal .ensures ∙ ap refusalOf told ∙ ap parsedOf (sym told) ∙ c .before .before .before .parse-lit .ensures
+returns c = c .refusal .ensures ∙ c .before .before .before .parse-lit .ensures
 
 returns-2 : tie.Need-returns-2
 returns-2 c = ap parsedOf (sym (c .before .parsed .given .1)) ∙ c .before .before .before .parse-lit .ensures

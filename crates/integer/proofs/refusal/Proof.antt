@@ -1,7 +1,7 @@
 -- `integer::refusal` meets its contract.
 -- Assumes nothing.
-use mathlib.Core.Path.{sym, ap, _∙_}
-use Rattle.integer.specs.Integer.{refusalOf}
+use mathlib.Core.Path.{sym, ap, subst}
+use Rattle.integer.specs.Integer.{parsedOf, IsRefused}
 use borrow.Author.Needs.{needs}
 use Rattle.integer.proofs.refusal.Statement.{statement}
 use Rattle.integer.proofs.refusal.Tie as tie
@@ -16,10 +16,10 @@ enum-known-parsed : tie.Need-enum-known-parsed
 enum-known-parsed c = search needs
 
 returns : tie.Need-returns
-returns c = c .perr-nowhere .ensures ∙ sym (ap refusalOf (c .before .enum-told .given .1))
+returns c = absurd (subst IsRefused (c .before .enum-told .given .1) (c .before .before .before .pre))
 
 returns-2 : tie.Need-returns-2
-returns-2 c = sym (ap refusalOf (c .before .parsed .given .1))
+returns-2 c = sym (ap parsedOf (c .before .parsed .given .1))
 
 pub refusal-spec : {M : Type 1} → statement M
 refusal-spec =

@@ -1,9 +1,10 @@
 -- `literal::decode` meets its contract.
 -- Assumes nothing.
-use mathlib.Core.Path.{_≡_, refl, sym, ap, _∙_}
+use mathlib.Core.Path.{_≡_, refl, sym, ap, subst, _∙_}
 use native.Mathlib.Omega.{arith}
+use Rattle.body.specs.Quote.{quoteOf, IsRefused}
 use Rattle.body.specs.declared.Quoted.{Quoted}
-use Rattle.literal.specs.Decodes.{kindCoded, refusedDecoding, decodeAt, bufferAt}
+use Rattle.literal.specs.Decodes.{kindCoded, decodeAt, bufferAt}
 use Rattle.literal.specs.Readings.{readAt}
 use Rattle.literal.specs.declared.KindFound.the-variants as found
 use Rattle.literal.proofs.Calls.{held, string-held, decode-read, buffer-read, string-short, string-is, string-decoded, string-buffer}
@@ -56,14 +57,14 @@ enum-told-2 : tie.Need-enum-told-2
 enum-told-2 c = search needs
 
 refused-decoding-requires : tie.Need-refused-decoding-requires
-refused-decoding-requires c κs = search needs
+refused-decoding-requires c κs = subst IsRefused (sym (c .enum-told2 .given .1)) tt
 
 returns-2 : tie.Need-returns-2
 returns-2 c = let q = c .before .before .before in
     let told = c .before .enum-told2 .given .1 in
     let z = coded (q .before .before) in
     let is = given q _ told in
-    (rw (decode-read _ _ _ z, is) (c .refused-decoding .ensures ∙ ap refusedDecoding told), (rw (buffer-read _ _ _ z, is), refl))
+    (rw (decode-read _ _ _ z, is) (c .refused-decoding .ensures _ _ (ap quoteOf told)), (rw (buffer-read _ _ _ z, is), refl))
 
 decode-requires : tie.Need-decode-requires
 decode-requires c κs = let q = c .before .before .before .before in

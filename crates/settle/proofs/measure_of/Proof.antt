@@ -1,7 +1,7 @@
 -- `settle::measure_of` meets its contract.
 -- Assumes nothing.
 use borrow.Author.Needs.{needs}
-use mathlib.Core.Path.{_≡_, sym, ap, _∙_}
+use mathlib.Core.Path.{_≡_, sym, ap, subst, _∙_}
 use Prim.Native.Nat.{_≤_}
 use native.Mathlib.Omega.{arith}
 use lib.ListN.{length}
@@ -9,7 +9,7 @@ use Rattle.err.specs.Reading.{outcomeOf}
 use Rattle.numbers.specs.Numbers.{suffixIn}
 use Rattle.bare_form.specs.Bare.{len, bareOf, bareBy}
 use Rattle.bare_form.specs.declared.Bare.{Bare}
-use Rattle.settle.specs.Settled.{refusedBare}
+use Rattle.settle.specs.Settled.{IsBad}
 use Rattle.settle.proofs.Forms.{form-inside, measure-refused, measure-long, measure-formed}
 use Rattle.settle.proofs.measure_of.Statement.{statement}
 use Rattle.settle.proofs.measure_of.Tie as tie
@@ -24,13 +24,13 @@ enum-told : tie.Need-enum-told
 enum-told c = search needs
 
 refused-requires : tie.Need-refused-requires
-refused-requires c κs = search needs
+refused-requires c κs = subst (λ (b : Bare). IsBad (bareOf b)) (sym (c .enum-told .given .1)) tt
 
 returns : tie.Need-returns
 returns c =
     let a = c .before .before .before .before .before .args in
     let told = c .before .enum-told .given .1 in
-    c .refused .ensures ∙ ap (λ (b : Bare). refusedBare (bareOf b)) told
+    c .refused .ensures _ _ (ap bareOf told)
     ∙ sym (measure-refused (a .text .now) (outcomeOf (a .found)) (sym (c .before .before .before .bare-len .ensures) ∙ ap bareOf told))
 
 suffix-start-requires : tie.Need-suffix-start-requires

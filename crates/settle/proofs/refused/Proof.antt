@@ -1,6 +1,10 @@
 -- `settle::refused` meets its contract.
 -- Assumes nothing.
 use borrow.Author.Needs.{needs}
+use mathlib.Core.Path.{sym, ap, subst, _∙_}
+use Rattle.bare_form.specs.Bare.{bareOf}
+use Rattle.bare_form.specs.declared.Bare.{Bare}
+use Rattle.settle.specs.Settled.{IsBad}
 use Rattle.settle.proofs.refused.Statement.{statement}
 use Rattle.settle.proofs.refused.Tie as tie
 
@@ -11,10 +15,10 @@ enum-known-bare : tie.Need-enum-known-bare
 enum-known-bare c = search needs
 
 returns : tie.Need-returns
-returns c = rw (c .enum-told .given .1)
+returns c = absurd (subst (λ (b : Bare). IsBad (bareOf b)) (c .enum-told .given .1) (c .before .before .pre))
 
 returns-2 : tie.Need-returns-2
-returns-2 c = rw (c .before .bare .given .1)
+returns-2 c n p h = let e = sym (ap bareOf (c .before .bare .given .1)) ∙ h in cc
 
 pub refused-spec : {M : Type 1} → statement M
 refused-spec = tie.close (tie.spec enum-told enum-known-bare returns returns-2)

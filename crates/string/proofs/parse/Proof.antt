@@ -1,7 +1,8 @@
 -- `string::parse` meets its contract.
 -- Assumes nothing.
-use mathlib.Core.Path.{ap, sym, _∙_}
-use Rattle.string.specs.String.{parsedOf, refusalOf}
+use mathlib.Core.Path.{ap, sym, subst, _∙_}
+use Rattle.body.specs.Quote.{IsRefused}
+use Rattle.string.specs.String.{parsedOf}
 use borrow.Author.Needs.{needs}
 use Rattle.string.proofs.parse.Statement.{statement}
 use Rattle.string.proofs.parse.Tie as tie
@@ -16,12 +17,10 @@ enum-told : tie.Need-enum-told
 enum-told c = search needs
 
 refusal-requires : tie.Need-refusal-requires
-refusal-requires c κs = search needs
+refusal-requires c κs = subst IsRefused (sym (c .enum-told .given .1)) tt
 
 returns : tie.Need-returns
-returns c =
-    let told = c .before .enum-told .given .1 in
-    c .refusal .ensures ∙ ap refusalOf told ∙ ap (parsedOf _) (sym told) ∙ c .before .before .before .parse-lit .ensures
+returns c = c .refusal .ensures _ ∙ c .before .before .before .parse-lit .ensures
 
 reading-requires : tie.Need-reading-requires
 reading-requires c κs = search needs
