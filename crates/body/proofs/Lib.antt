@@ -3,5 +3,5 @@ pub mod Within
 pub mod Bodies
 pub mod Runs
 pub mod Codes
-pub mod Raws
+pub mod Bytes
 pub mod Strings

@@ -19,7 +19,7 @@ use Rattle.escape.specs.declared.Allowed.{Allowed}
 use Rattle.escape.specs.declared.Unescaped.the-variants.{Byte}
 use Rattle.body.specs.Code.{Stopped}
 use Rattle.plain_run.specs.Plain.{plainByte}
-use Rattle.body.specs.Step.{close, refuse, Next, piece, stop, plainOf, stepOf, rawStepOf}
+use Rattle.body.specs.Step.{close, refuse, Next, piece, stop, plainOf, stepOf}
 use Rattle.body.specs.Body.{push, bodyBy}
 use Rattle.body.specs.Pieces.{Char}
 use Rattle.body.proofs.Steps as steps
@@ -30,10 +30,6 @@ use Rattle.body.proofs.Bodies as bodies
 pub char-step : (k : Allowed) (b : ℕ) (s : List ℕ) → Char k b → stepOf k (b ∷ s) ≡ piece 1 (Byte b)
 char-step k b s h =
     sym (steps.at-plain k (b ∷ s) 0 (omega arith) (h .backslash)) ∙ sym (steps.is-plain k b (h .cr) (h .quote) (h .nul) (h .ascii))
-
-pub raw-char-step : (k : Allowed) (h b : ℕ) (s : List ℕ) → Char k b → rawStepOf k h (b ∷ s) ≡ piece 1 (Byte b)
-raw-char-step k h b s c =
-    sym (steps.raw-plain k h (b ∷ s) 0 (omega arith) (c .quote)) ∙ sym (steps.is-plain k b (c .cr) (c .quote) (c .nul) (c .ascii))
 
 -- the tests of `plainByte`; a byte that is 0 is not above 127
 tests : (a b c z h n u : Bool) → (z ≡ true → h ≡ false)
@@ -63,9 +59,6 @@ plain-char k b t =
 
 pub plain-step : (k : Allowed) (b : ℕ) (s : List ℕ) → plainByte k b ≡ true → stepOf k (b ∷ s) ≡ piece 1 (Byte b)
 plain-step k b s t = char-step k b s (plain-char k b t)
-
-pub raw-plain-step : (k : Allowed) (h b : ℕ) (s : List ℕ) → plainByte k b ≡ true → rawStepOf k h (b ∷ s) ≡ piece 1 (Byte b)
-raw-plain-step k h b s t = raw-char-step k h b s (plain-char k b t)
 
 -- ---- a byte that does not stand for itself ends the body, or is a backslash
 

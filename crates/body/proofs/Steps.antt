@@ -1,25 +1,23 @@
--- One law for each way through a step of a body.
+-- One law for each way through a step of a quoted body.
 -- Assumes nothing.
-use mathlib.Core.Path.{_≡_, sym, _∙_}
+use mathlib.Core.Path.{_≡_, _∙_}
 use mathlib.Core.Bool.{true, false, not, _&&_}
 use mathlib.Core.List.{List}
-use Prim.Native.Nat.{ℕ, suc, _+_, _≤_, _<_}
-use native.Mathlib.Numerals.{add-one}
+use Prim.Native.Nat.{ℕ, _+_, _≤_, _<_}
 use native.Mathlib.Omega.{arith}
-use borrow.Author.Tests.{eq-eqb, ne-eqb, le-leb, lt-leb}
+use borrow.Author.Tests.{eq-eqb, ne-eqb}
 use lib.Dec.{eqb, ltb}
 use lib.ListN.{length, getD, drop, drop-of-length-le}
 use lib.Seq.{drop-cons}
 use Rattle.err.specs.Outcome.{none, between}
 use Rattle.scan.specs.Run.{run}
-use Rattle.scan.specs.Sets.{only}
 use Rattle.parse.specs.Sets.{blank}
 use Rattle.utf8.specs.Cut.{front}
 use Rattle.escape.specs.Allows.{unicode, allowNul}
 use Rattle.escape.specs.Escape.{escapeOf}
 use Rattle.escape.specs.declared.Allowed.{Allowed}
 use Rattle.escape.specs.declared.Unescaped.the-variants.{Nothing, Byte}
-use Rattle.body.specs.Step.{close, refuse, piece, stop, ofEscape, lineBreakOf, backslashOf, plainOf, stepOf, rawByte, rawStepOf}
+use Rattle.body.specs.Step.{close, refuse, piece, stop, ofEscape, lineBreakOf, backslashOf, plainOf, stepOf}
 
 -- ---- a dropped line break
 
@@ -86,27 +84,3 @@ module _ (k : Allowed) (s : List ℕ) (i : ℕ) where
 
   pub at-quote : i < length s → getD s i 0 ≡ 34 → stop close ≡ stepOf k (drop i s)
   at-quote h e = is-quote k (getD s i 0) (λ x. omega arith) e ∙ at-plain h (λ x. omega arith)
-
--- ---- at an offset of a raw body
-
-module _ (k : Allowed) (h : ℕ) (s : List ℕ) (i : ℕ) where
-  pub raw-end : length s ≤ i → stop (refuse 29 none) ≡ rawStepOf k h (drop i s)
-  unfolding rawStepOf
-  raw-end l = rw (drop-of-length-le s l)
-
-  module _ (l : i < length s) where
-    pub raw-plain : (getD s i 0 ≡ 34 → ⊥) → plainOf k (getD s i 0) ≡ rawStepOf k h (drop i s)
-    unfolding rawStepOf rawByte
-    raw-plain e = rw (drop-cons s i 0 l, ne-eqb _ _ e)
-
-    module _ (e : getD s i 0 ≡ 34) (n : ℕ) (is : n ≡ run (only 35) (drop (i + 1) s)) where
-      there : run (only 35) (drop (suc i) s) ≡ n
-      there = sym (rw (add-one i) at is)
-
-      pub raw-close : h ≤ n → stop close ≡ rawStepOf k h (drop i s)
-      unfolding rawStepOf rawByte
-      raw-close g = rw (drop-cons s i 0 l, eq-eqb _ _ e, there, le-leb _ _ g)
-
-      pub raw-quote : n < h → piece 1 (Byte 34) ≡ rawStepOf k h (drop i s)
-      unfolding rawStepOf rawByte
-      raw-quote g = rw (drop-cons s i 0 l, eq-eqb _ _ e, there, lt-leb _ _ g)

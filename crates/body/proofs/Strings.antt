@@ -4,21 +4,18 @@ use mathlib.Core.Path.{_≡_, refl, sym, subst}
 use mathlib.Core.List.{List}
 use Prim.Native.Nat.{ℕ, _+_, _-_, _≤_, _<_}
 use native.Mathlib.Omega.{arith}
-use borrow.Author.Tests.{eq-eqb, ne-eqb, lt-ltb, le-ltb}
-use lib.ListN.{length, getD, drop, length-drop}
-use Rattle.err.specs.Outcome.{Place, none, between, Rawness, notRaw, raw, Ends, RefusedIn, shift}
-use Rattle.scan.specs.Run.{run}
-use Rattle.scan.specs.Sets.{only}
-use Rattle.scan.proofs.Cases.{cond-eq, cond-lt, by-lt}
-use Rattle.scan.proofs.Runs.{run-le}
+use borrow.Author.Tests.{eq-eqb, ne-eqb}
+use lib.ListN.{length, drop, length-drop}
+use Rattle.err.specs.Outcome.{Place, none, between, Rawness, notRaw, Ends, RefusedIn, shift}
+use Rattle.scan.proofs.Cases.{cond-eq, by-lt}
 use Rattle.suffix.specs.Suffix.{suffixFault}
 use Rattle.suffix.proofs.Suffixes.{fault-none, fault-small}
 use Rattle.escape.specs.declared.Allowed.{Allowed}
-use Rattle.body.specs.Step.{End, close, refuse, Next, endOf, stepOf, rawStepOf}
-use Rattle.body.specs.Body.{Fitting, Body, bodyBy, body, rawBody, Measures}
-use Rattle.body.specs.Quote.{Quote, quoted, refused, closing, suffixed, afterEnd, afterBody, stringOf, rawFrom, rawAt, rawOf}
+use Rattle.body.specs.Step.{End, close, refuse, Next, endOf, stepOf}
+use Rattle.body.specs.Body.{Fitting, Body, bodyBy, body, Measures}
+use Rattle.body.specs.Quote.{Quote, quoted, refused, closing, suffixed, afterEnd, afterBody, stringOf}
 use Rattle.body.specs.declared.Measured.{Measured}
-use Rattle.body.proofs.Within.{EndIn, end-fits, NextIn, step-in, raw-in}
+use Rattle.body.proofs.Within.{EndIn, end-fits, NextIn, step-in}
 use Rattle.body.proofs.Bodies.{ends-in, value-short}
 
 -- ---- a suffix
@@ -60,32 +57,12 @@ pub ends-up : (m n : ℕ) (p : Place) → m ≤ n → Ends m p → Ends n p
 ends-up m n none h e = tt
 ends-up m n (between a b) h e = (e .0, omega arith)
 
--- ---- the whole, one law for each way
+-- ---- the whole
 
 module _ (k : Allowed) (offset : ℕ) (text : List ℕ) where
   pub string-is : afterBody text notRaw offset (body k (drop offset text)) ≡ stringOf k offset text
   unfolding stringOf
   string-is = refl
-
-  module _ (h : ℕ) (is : h ≡ run (only 35) (drop offset text)) where
-    pub only-hashes : offset + h ≡ length text → refused 3 none ≡ rawOf k offset text
-    unfolding rawOf rawAt
-    only-hashes e = rw (← is, eq-eqb _ _ e)
-
-    module _ (some : offset + h ≡ length text → ⊥) where
-      pub too-many : 255 < h → refused 38 (between offset (offset + h)) ≡ rawOf k offset text
-      unfolding rawOf rawAt
-      too-many g = rw (← is, ne-eqb _ _ some, lt-ltb _ _ g)
-
-      module _ (few : h ≤ 255) where
-        pub no-quote : (getD text (offset + h) 0 ≡ 34 → ⊥) → refused 3 none ≡ rawOf k offset text
-        unfolding rawOf rawAt
-        no-quote e = rw (← is, ne-eqb _ _ some, le-ltb _ _ few, ne-eqb _ _ e)
-
-        pub raw-is : getD text (offset + h) 0 ≡ 34
-            → afterBody text (raw h) (offset + h + 1) (rawBody k h (drop (offset + h + 1) text)) ≡ rawOf k offset text
-        unfolding rawOf rawAt rawFrom
-        raw-is e = rw (← is, ne-eqb _ _ some, le-ltb _ _ few, eq-eqb _ _ e)
 
 -- ---- bounds
 
@@ -111,7 +88,7 @@ after-in : (text : List ℕ) (r : Rawness) (offset at len : ℕ) (e : End) → o
 after-in text r offset at len close h l f = suffixed-in text r offset (at + closing r) len (omega arith) (omega arith)
 after-in text r offset at len (refuse num p) h l f = (f .0, f .1, shift-in at (length text) p l (f .2))
 
-body-in : (step : List ℕ → Next) (text : List ℕ) (r : Rawness) → ((s : List ℕ) → NextIn (closing r) (length s) (step s))
+pub body-in : (step : List ℕ → Next) (text : List ℕ) (r : Rawness) → ((s : List ℕ) → NextIn (closing r) (length s) (step s))
     → (offset : ℕ) → offset ≤ length text → QuoteIn (length text) offset (afterBody text r offset (bodyBy step (drop offset text)))
 body-in step text r good offset l =
     let s : List ℕ = drop offset text in
@@ -126,28 +103,8 @@ pub string-in : (k : Allowed) (offset : ℕ) (text : List ℕ) → offset ≤ le
 unfolding stringOf
 string-in k offset text l = body-in (stepOf k) text notRaw (step-in k) offset l
 
-pub raw-string-in : (k : Allowed) (offset : ℕ) (text : List ℕ) → offset ≤ length text → QuoteIn (length text) offset (rawOf k offset text)
-unfolding rawOf rawAt rawFrom
-raw-string-in k offset text l =
-    let P : Quote → Type 0 = QuoteIn (length text) offset in
-    let h : ℕ = run (only 35) (drop offset text) in
-    let fits : offset + h ≤ length text = omega (arith, run-le (only 35) (drop offset text), length-drop offset text) in
-    cond-eq P (offset + h) (length text) (λ e. (omega arith, omega arith, tt)) λ e.
-    cond-lt P 255 h (λ g. omega arith) λ g.
-    cond-eq P (getD text (offset + h) 0) 34
-    (λ q. wider offset (offset + h + 1) (omega arith) (afterBody text (raw h) (offset + h + 1) (rawBody k h (drop (offset + h + 1) text)))
-    (body-in (rawStepOf k h) text (raw h) (raw-in k h) (offset + h + 1) (omega arith)))
-    (λ q. (omega arith, omega arith, tt))
-  where
-    wider : (a b : ℕ) → a ≤ b → (x : Quote) → QuoteIn (length text) b x → QuoteIn (length text) a x
-    wider a b h (quoted r start len) i = (omega (arith, i .0), i .1)
-    wider a b h (refused num p) i = i
-
 -- ---- a refusal is in the text
 
 module _ (k : Allowed) (offset : ℕ) (text : List ℕ) (l : offset ≤ length text) {n : ℕ} {p : Place} where
   pub string-refused : stringOf k offset text ≡ refused n p → RefusedIn (length text) n p
   string-refused e = subst (QuoteIn (length text) offset) e (string-in k offset text l)
-
-  pub raw-refused : rawOf k offset text ≡ refused n p → RefusedIn (length text) n p
-  raw-refused e = subst (QuoteIn (length text) offset) e (raw-string-in k offset text l)

@@ -5,12 +5,10 @@ use mathlib.Core.Bool.{not, _&&_}
 use mathlib.Core.List.{List, [], _∷_}
 use Prim.Native.Nat.{ℕ, _+_, _≤_, _<_}
 use native.Mathlib.Omega.{arith}
-use borrow.Author.Tests.{leb-true}
-use lib.Dec.{eqb, ltb, leb}
+use lib.Dec.{eqb, ltb}
 use lib.ListN.{length, getD, drop, length-drop}
 use Rattle.err.specs.Outcome.{none, between, RefusedIn}
 use Rattle.scan.specs.Run.{run}
-use Rattle.scan.specs.Sets.{only}
 use Rattle.scan.proofs.Cases.{cond-in, cond-eq, by-lt}
 use Rattle.scan.proofs.Runs.{run-le}
 use Rattle.scan.proofs.Bytes.{byte-inside}
@@ -22,7 +20,7 @@ use Rattle.escape.specs.Escape.{Escaped, value, bad, bytesOf, Valid, escapeOf}
 use Rattle.escape.specs.declared.Allowed.{Allowed}
 use Rattle.escape.proofs.Within.{EscapeIn, escape-in}
 use Rattle.escape.proofs.Escapes.{too-short}
-use Rattle.body.specs.Step.{End, close, refuse, Next, piece, stop, ofEscape, lineBreakOf, backslashOf, plainOf, stepOf, rawByte, rawStepOf}
+use Rattle.body.specs.Step.{End, close, refuse, Next, piece, stop, ofEscape, lineBreakOf, backslashOf, plainOf, stepOf}
 use Rattle.body.specs.Body.{EndFits}
 
 -- of a body's end with m bytes left, where q bytes close it: `EndFits`, and the numbers of litrs's refusals
@@ -59,7 +57,8 @@ backslash-in k s h =
     (λ p. of-escape-in (length (front s)) (length s) (escapeOf k (front s)) p (omega (arith, front-length s)) (escape-in k (front s)))
     (λ p. subst (λ (x : Escaped). P (ofEscape x)) (too-short k (front s) (omega arith)) (omega arith))
 
-plain-in : (k : Allowed) (q b m : ℕ) → 0 < m → (b ≡ 34 → q ≤ m) → NextIn q m (plainOf k b)
+-- of quoted and raw bodies, which q bytes close
+pub plain-in : (k : Allowed) (q b m : ℕ) → 0 < m → (b ≡ 34 → q ≤ m) → NextIn q m (plainOf k b)
 unfolding plainOf
 plain-in k q b m h c =
     let P : Next → Type 0 = NextIn q m in
@@ -75,14 +74,3 @@ step-in k [] = (omega arith, omega arith, tt)
 step-in k (b ∷ s) =
     cond-eq (NextIn 1 (length (b ∷ s))) b 92 (λ e. backslash-in k (b ∷ s) (omega arith))
     (λ e. plain-in k 1 b (length (b ∷ s)) (omega arith) (λ x. omega arith))
-
--- and of raw bodies
-pub raw-in : (k : Allowed) (h : ℕ) (s : List ℕ) → NextIn (h + 1) (length s) (rawStepOf k h s)
-unfolding rawStepOf rawByte
-raw-in k h [] = (omega arith, omega arith, tt)
-raw-in k h (b ∷ s) =
-    let P : Next → Type 0 = NextIn (h + 1) (length (b ∷ s)) in
-    cond-eq P b 34 (λ e.
-    cond-in P (leb h (run (only 35) s)) (λ f. omega (arith, leb-true h (run (only 35) s) f, run-le (only 35) s))
-    λ f. (omega arith, omega arith, omega arith, tt)) λ e.
-    plain-in k (h + 1) b (length (b ∷ s)) (omega arith) (λ x. absurd (e x))

@@ -7,7 +7,7 @@ use mathlib.Core.List.{List, [], _∷_, _++_}
 use lib.ListN.{length}
 use Rattle.escape.specs.Escape.{bytesOf}
 use Rattle.escape.specs.declared.Allowed.{Allowed}
-use Rattle.body.specs.Step.{End, close, refuse, Next, piece, stop, endOf, stepOf, rawStepOf}
+use Rattle.body.specs.Step.{End, close, refuse, Next, piece, stop, endOf, stepOf}
 use Rattle.body.specs.declared.Measured.{Measured}
 
 -- where a body ends, the bytes that it stands for up to there, and why it ends
@@ -40,10 +40,6 @@ bodyBy step s = bodyFrom step 0 s
 -- the body of a quoted string: the loop of `unescape_string`
 abbrev pub body : Allowed → List ℕ → Body
 body k = bodyBy (stepOf k)
-
--- the body of a raw string with h hashes: the loop of `scan_raw_string`
-abbrev pub rawBody : Allowed → ℕ → List ℕ → Body
-rawBody k h = bodyBy (rawStepOf k h)
 
 -- ---- what a measure says
 

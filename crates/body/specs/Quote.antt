@@ -1,19 +1,17 @@
--- What litrs's `unescape_string` and `scan_raw_string` (escape.rs) return for a whole text.
+-- What stands after a body, and what litrs's `unescape_string` (escape.rs) returns for a whole text.
 -- Assumes nothing.
 use Prim.Native.Nat.{ℕ, _+_}
 use mathlib.Core.Bool.{cond}
 use mathlib.Core.List.{List}
-use lib.Dec.{eqb, ltb}
-use lib.ListN.{length, getD, drop}
-use Rattle.err.specs.Outcome.{Place, none, between, Rawness, notRaw, raw, shift}
+use lib.Dec.{eqb}
+use lib.ListN.{length, drop}
+use Rattle.err.specs.Outcome.{Place, between, Rawness, notRaw, raw, shift}
 use Rattle.err.specs.Numbers.{numberOf}
 use Rattle.err.specs.Reading.{placeOf, hashesOf}
-use Rattle.scan.specs.Run.{run}
-use Rattle.scan.specs.Sets.{only}
 use Rattle.suffix.specs.Suffix.{suffixFault}
 use Rattle.escape.specs.declared.Allowed.{Allowed}
 use Rattle.body.specs.Step.{End, close, refuse}
-use Rattle.body.specs.Body.{Body, body, rawBody}
+use Rattle.body.specs.Body.{Body, body}
 use Rattle.body.specs.declared.Quoted.{Quoted}
 use Rattle.body.specs.declared.Quoted.the-variants as answer
 
@@ -55,20 +53,3 @@ afterBody text r offset b = afterEnd text r (offset + b .at) (length (b .value))
 -- litrs's `unescape_string`: of a text whose quoted body starts at an offset
 unfoldable pub stringOf : Allowed → ℕ → List ℕ → Quote
 stringOf k offset text = afterBody text notRaw offset (body k (drop offset text))
-
--- of a text whose raw body starts at an offset, after h hashes and a quote
-unfoldable pub rawFrom : Allowed → ℕ → ℕ → List ℕ → Quote
-rawFrom k h offset text = afterBody text (raw h) offset (rawBody k h (drop offset text))
-
--- 01, Quoted kinds: h hashes stand at an offset; "only hashes to the end, however many" are 3, then "255 at most, else 38", then hashes
--- "not followed by a quote are 3"
-unfoldable pub rawAt : Allowed → ℕ → ℕ → List ℕ → Quote
-rawAt k h offset text =
-    cond (eqb (offset + h) (length text)) (refused 3 none)
-    (cond (ltb 255 h) (refused 38 (between offset (offset + h)))
-    (cond (eqb (getD text (offset + h) 0) 34) (rawFrom k h (offset + h + 1) text)
-    (refused 3 none)))
-
--- litrs's `scan_raw_string`: of a text whose hashes start at an offset
-unfoldable pub rawOf : Allowed → ℕ → List ℕ → Quote
-rawOf k offset text = rawAt k (run (only 35) (drop offset text)) offset text

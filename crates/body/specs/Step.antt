@@ -1,15 +1,14 @@
--- One step through a quoted or a raw body, as the loops of litrs's `unescape_string` and `scan_raw_string` (escape.rs) take it.
+-- One step through a body, and through a quoted one as the loop of litrs's `unescape_string` (escape.rs) takes it.
 -- Assumes nothing.
 use Prim.Native.Nat.{ℕ, _+_}
 use mathlib.Core.Bool.{cond, not, _&&_}
 use mathlib.Core.List.{List, [], _∷_}
-use lib.Dec.{eqb, ltb, leb}
+use lib.Dec.{eqb, ltb}
 use lib.ListN.{length, getD, drop}
 use Rattle.err.specs.Outcome.{Place, none, between}
 use Rattle.err.specs.Numbers.{numberOf}
 use Rattle.err.specs.Reading.{placeOf}
 use Rattle.scan.specs.Run.{run}
-use Rattle.scan.specs.Sets.{only}
 use Rattle.parse.specs.Sets.{blank}
 use Rattle.utf8.specs.Cut.{front}
 use Rattle.escape.specs.Allows.{unicode, allowNul}
@@ -78,18 +77,3 @@ plainOf k b =
 unfoldable pub stepOf : Allowed → List ℕ → Next
 stepOf k [] = stop (refuse 30 none)
 stepOf k (b ∷ s) = cond (eqb b 92) (backslashOf k (b ∷ s)) (plainOf k b)
-
--- ---- raw bodies
-
--- 01, Quoted kinds: "A raw string closes at its first inner quote followed by its hashes", of which there are h; another quote stands for
--- itself, and then CR, NUL and non-ASCII are refused as above
-unfoldable pub rawByte : Allowed → ℕ → ℕ → List ℕ → Next
-rawByte k h b s =
-    cond (eqb b 34)
-    (cond (leb h (run (only 35) s)) (stop close) (piece 1 (Byte 34)))
-    (plainOf k b)
-
--- one turn of `scan_raw_string`'s loop, on what is left of the text; after the last byte 29
-unfoldable pub rawStepOf : Allowed → ℕ → List ℕ → Next
-rawStepOf k h [] = stop (refuse 29 none)
-rawStepOf k h (b ∷ s) = rawByte k h b s

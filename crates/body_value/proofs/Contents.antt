@@ -1,15 +1,14 @@
--- The value of a content or of a raw body: no zero byte where the kind has none, and UTF-8 where the text is and no byte escapes are.
+-- The value of a content: no zero byte where the kind has none, and UTF-8 where the text is and no byte escapes are.
 -- Assumes nothing.
 use mathlib.Core.Path.{_≡_, refl, subst}
-use mathlib.Core.Bool.{Bool, true, false, not, _&&_}
+use mathlib.Core.Bool.{false}
 use mathlib.Core.Logic.{_⊎_, inl, inr}
 use mathlib.Core.List.{List, [], _∷_, _++_, append-assoc, append-nil}
-use Prim.Native.Nat.{ℕ, suc, _+_, _*_, _/_, _<_}
+use Prim.Native.Nat.{ℕ, _+_, _*_, _/_, _<_}
 use native.Mathlib.Nat.{add-zero}
 use native.Mathlib.Omega.{arith}
-use borrow.Author.Tests.{ne-eqb, eqb-false}
-use lib.Dec.{eqb}
-use lib.ListN.{List·getD-append, length, getD, length-append}
+use borrow.Author.Tests.{eqb-false}
+use lib.ListN.{length, getD, length-append}
 use lib.Seq.{take-append-seam, drop-append-seam, getD-append-add}
 use Rattle.scan.specs.Run.{All}
 use Rattle.scan.specs.Sets.{except}
@@ -31,23 +30,10 @@ use Rattle.escape.specs.declared.Unescaped.{Unescaped}
 use Rattle.escape.specs.declared.Unescaped.the-variants.{Nothing, Byte, Unicode}
 use Rattle.escape.proofs.Values.{Unwraps, escape-unwraps}
 use Rattle.escape.proofs.Exact.{escaped, after, first-two}
-use Rattle.body.specs.Pieces.{Content, none, char, escape, continue, RawContent}
+use Rattle.body.specs.Pieces.{Content, none, char, escape, continue}
+use Rattle.body.proofs.Bytes.{other, tested, all-at}
 
 -- ---- no zero byte
-
-other : (b : ℕ) → (b ≡ 0 → ⊥) → except 0 b ≡ true
-unfolding except
-other b h = rw (ne-eqb b 0 h)
-
--- what passes the test of a kind that has no NUL is not 0
-tested : (t : Bool) (b : ℕ) → t ≡ false → (not t && eqb b 0) ≡ false → b ≡ 0 → ⊥
-tested true b e g = clash refl e
-tested false b e g = eqb-false b 0 g
-
--- every byte passes where the byte at each index does
-all-at : (p : ℕ → Bool) (l : List ℕ) → ((i : ℕ) → i < length l → p (getD l i 0) ≡ true) → All p l
-all-at p [] h = tt
-all-at p (b ∷ l) h = (h 0 (omega arith), all-at p l (λ i g. h (suc i) (omega arith)))
 
 encode-no-zero : (v : ℕ) → (v ≡ 0 → ⊥) → All (except 0) (encode v)
 encode-no-zero v g =
@@ -66,11 +52,6 @@ module _ (k : Allowed) (no : allowNul k ≡ false) where
   content-no-zero (char b h r) = (other b (tested (allowNul k) b no (h .nul)), content-no-zero r)
   content-no-zero (escape {v = v} {u = u} x r e f) = rw f (all-append (except 0) (bytesOf u) v (escape-no-zero x) (content-no-zero r))
   content-no-zero (continue ws a st r e) = content-no-zero r
-
-  pub raw-no-zero : {h : ℕ} (v r : List ℕ) → RawContent k h (v ++ r) (length v) → All (except 0) v
-  raw-no-zero v r c =
-      all-at (except 0) v λ i l.
-      other (getD v i 0) (tested (allowNul k) (getD v i 0) no (rw (List·getD-append v r 0 i l) at (c .chars i l .nul)))
 
 -- ---- UTF-8
 

@@ -2,8 +2,8 @@
 -- Assumes nothing.
 use mathlib.Core.Path.{_≡_, refl}
 use mathlib.Core.List.{[], _∷_}
-use Rattle.err.specs.Outcome.{none, between, raw}
-use Rattle.scan.specs.Sets.{except, only}
+use Rattle.err.specs.Outcome.{between}
+use Rattle.scan.specs.Sets.{except}
 use Rattle.parse.specs.Class.{classOf}
 use Rattle.parse.specs.Sets.{blank, suffixRest}
 use Rattle.suffix.specs.Suffix.{suffixFault, faultFrom, suffixStart}
@@ -12,9 +12,9 @@ use Rattle.utf8.specs.Cut.{tail, isBoundary}
 use Rattle.escape.specs.declared.Allowed.{Allowed}
 use Rattle.escape.specs.declared.Allowed.the-variants as allowed
 use Rattle.escape.specs.Escape.{letterOf, xByte, xEscape, isScalar, uScalar, badStart, uInner, uBraced, uEscape, escapeBy, escapeOf}
-use Rattle.body.specs.Step.{close, lineBreakOf, backslashOf, plainOf, stepOf, rawByte, rawStepOf}
+use Rattle.body.specs.Step.{close, lineBreakOf, backslashOf, plainOf, stepOf}
 use Rattle.body.specs.Body.{bodyFrom, bodyBy, body}
-use Rattle.body.specs.Quote.{quoted, refused, suffixed, stringOf, rawFrom, rawAt, rawOf}
+use Rattle.body.specs.Quote.{refused, suffixed, stringOf}
 
 abbrev string : Allowed
 string = allowed.Text
@@ -22,7 +22,7 @@ string = allowed.Text
 abbrev cString : Allowed
 cString = allowed.C
 
--- `"\"` is 9 at 1-2, `"\x4"` is 9 at 1-4, `"\x4"u` is 10 at 1-5; and `c"\0"`, a body of four pieces, `r#""a"#`, `r##`
+-- `"\"` is 9 at 1-2, `"\x4"` is 9 at 1-4, `"\x4"u` is 10 at 1-5; and `c"\0"`, a body of four pieces
 pub record Marked : Type 0 where
   pub lone : stringOf string 1 (34 ∷ 92 ∷ 34 ∷ []) ≡ refused 9 (between 1 2)
   pub short : stringOf string 1 (34 ∷ 92 ∷ 120 ∷ 52 ∷ 34 ∷ []) ≡ refused 9 (between 1 4)
@@ -30,9 +30,7 @@ pub record Marked : Type 0 where
   pub nul : stringOf cString 2 (99 ∷ 34 ∷ 92 ∷ 48 ∷ 34 ∷ []) ≡ refused 35 (between 2 4)
   pub pieces : body string (97 ∷ 92 ∷ 10 ∷ 32 ∷ 92 ∷ 117 ∷ 123 ∷ 69 ∷ 95 ∷ 57 ∷ 125 ∷ 34 ∷ [])
       ≡ record { at = 11; value = 97 ∷ 195 ∷ 169 ∷ []; end = close }
-  pub inner-quote : rawOf string 1 (114 ∷ 35 ∷ 34 ∷ 34 ∷ 97 ∷ 34 ∷ 35 ∷ []) ≡ quoted (raw 1) 7 2
-  pub hashes : rawOf string 1 (114 ∷ 35 ∷ 35 ∷ []) ≡ refused 3 none
 
 pub marked : Marked
-unfolding classOf except only blank suffixRest suffixFault faultFrom suffixStart encode tail isBoundary letterOf xByte xEscape isScalar uScalar badStart uInner uBraced uEscape escapeBy escapeOf lineBreakOf backslashOf plainOf stepOf rawByte rawStepOf bodyFrom bodyBy suffixed stringOf rawFrom rawAt rawOf
-marked = record { lone = refl; short = refl; with-suffix = refl; nul = refl; pieces = refl; inner-quote = refl; hashes = refl }
+unfolding classOf except blank suffixRest suffixFault faultFrom suffixStart encode tail isBoundary letterOf xByte xEscape isScalar uScalar badStart uInner uBraced uEscape escapeBy escapeOf lineBreakOf backslashOf plainOf stepOf bodyFrom bodyBy suffixed stringOf
+marked = record { lone = refl; short = refl; with-suffix = refl; nul = refl; pieces = refl }

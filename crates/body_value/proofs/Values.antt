@@ -24,7 +24,7 @@ use Rattle.body.specs.Step.{Next, piece, stop, ofEscape, lineBreakOf, backslash
 use Rattle.body.specs.Body.{body}
 use Rattle.body.proofs.Within.{NextIn, step-in}
 use Rattle.body.proofs.Bodies.{induct, value-short}
-use Rattle.body.proofs.Raws.{take-none, take-one}
+use Rattle.body.proofs.Bytes.{take-none, take-one}
 
 -- a dropped line break stands for nothing; any other value can be unwrapped
 abbrev pub PieceUnwraps : Allowed → Unescaped → Type 0

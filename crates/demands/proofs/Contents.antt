@@ -21,8 +21,9 @@ use Rattle.escape.specs.declared.Unescaped.{Unescaped}
 use Rattle.escape.specs.declared.Unescaped.the-variants as unescaped
 use Rattle.escape.specs.declared.Allowed.{Allowed}
 use Rattle.escape.specs.declared.Allowed.the-variants.{Text, Bytes, C}
-use Rattle.body.specs.Pieces.{Char, Content, RawChar, ClosesAt, RawContent}
+use Rattle.body.specs.Pieces.{Char, Content}
 use Rattle.body.specs.Pieces as pieces
+use Rattle.raw.specs.Content.{RawChar, ClosesAt, RawContent}
 use Rattle.string.specs.Parts.{hashes}
 use Rattle.grammar.specs.Notation.{Class, byte, _∪_, all, times}
 use Rattle.grammar.specs.Escapes.{WHITESPACE, STRING-CONTINUE}

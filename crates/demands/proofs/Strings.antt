@@ -12,7 +12,7 @@ use Rattle.utf8.specs.Utf8.{Utf8}
 use Rattle.utf8.proofs.Aligned.{aligned}
 use Rattle.escape.specs.declared.Allowed.{Allowed}
 use Rattle.escape.specs.declared.Allowed.the-variants.{Text, Bytes, C}
-use Rattle.body.specs.Pieces.{RawContent}
+use Rattle.raw.specs.Content.{RawContent}
 use Rattle.string.specs.String.{kindOf, stringRead, stringValue}
 use Rattle.string.specs.Decode.{written}
 use Rattle.string.specs.Parts.{letterOf, hashes, QuotedParts, RawParts, Tiled, as-quoted, as-raw}

@@ -1,2 +1,7 @@
+pub mod Steps
+pub mod Bodies
 pub mod Flags
 pub mod Passes
+pub mod Strings
+pub mod Contents
+pub mod Examples

@@ -20,14 +20,16 @@ use Rattle.escape.specs.declared.Allowed.{Allowed}
 use Rattle.escape.specs.declared.Unescaped.the-variants.{Byte}
 use Rattle.body.specs.Code.{Stopped}
 use Rattle.plain_run.specs.Plain.{plainByte}
-use Rattle.body.specs.Step.{close, piece, endOf, rawStepOf}
-use Rattle.body.specs.Body.{rawBody, Measures}
+use Rattle.body.specs.Step.{close, piece, endOf}
+use Rattle.body.specs.Body.{Measures}
 use Rattle.body.specs.declared.Measured.{Measured}
-use Rattle.body.proofs.Steps as steps
+use Rattle.body.proofs.Steps.{is-plain}
 use Rattle.body.proofs.Bodies.{Passed}
-use Rattle.body.proofs.Runs.{raw-plain-step, plain-stops}
-use Rattle.body.proofs.Raws.{raw-more, raw-measures}
+use Rattle.body.proofs.Runs.{plain-stops}
+use Rattle.raw.specs.Raw.{rawStepOf, rawBody}
 use Rattle.raw.specs.Scan.{rawPlain, markOf, passes, rawRun}
+use Rattle.raw.proofs.Steps as steps
+use Rattle.raw.proofs.Bodies.{raw-more, raw-measures}
 use Rattle.raw.proofs.Flags.{scan-in, scan-past, scan-more, scan-stop}
 
 -- ---- the two tests of a byte
@@ -114,9 +116,9 @@ module _ (k : Allowed) (h : ℕ) (s : List ℕ) (i : ℕ) (l : i < length s) whe
       by-backslash e true f =
           let b : getD s i 0 ≡ 92 = eqb-true _ _ f in
           sym (steps.raw-plain k h s i l e)
-          ∙ sym (rw b (steps.is-plain k 92 (λ x. omega arith) (λ x. omega arith) (and-false (not (allowNul k))) (and-false (not (unicode k)))))
+          ∙ sym (rw b (is-plain k 92 (λ x. omega arith) (λ x. omega arith) (and-false (not (allowNul k))) (and-false (not (unicode k)))))
       by-backslash e false f =
-          rw (drop-cons s i 0 l) (raw-plain-step k h (getD s i 0) (drop (suc i) s) (agrees k (getD s i 0) (eqb-false _ _ f) e ∙ plain))
+          rw (drop-cons s i 0 l) (steps.raw-plain-step k h (getD s i 0) (drop (suc i) s) (agrees k (getD s i 0) (eqb-false _ _ f) e ∙ plain))
 
       by-quote : (u : Bool) → eqb (getD s i 0) 34 ≡ u → rawStepOf k h (drop i s) ≡ piece 1 (Byte (getD s i 0))
       by-quote true f =

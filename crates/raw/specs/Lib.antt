@@ -1,1 +1,3 @@
+pub mod Raw
+pub mod Content
 pub mod Scan

@@ -17,9 +17,10 @@ ghost use lib.ListN.{length, getD, drop};
 ghost use Rattle.scan.specs.Run.{run};
 ghost use Rattle.scan.specs.Sets.{only};
 ghost use Rattle.body.specs.Code.{Stopped};
-ghost use Rattle.body.specs.Step.{stop, endOf, nextOf, rawStepOf};
-ghost use Rattle.body.specs.Body.{rawBody, Measures};
-ghost use Rattle.body.specs.Quote.{quoteOf, rawOf};
+ghost use Rattle.body.specs.Step.{stop, endOf, nextOf};
+ghost use Rattle.body.specs.Body.{Measures};
+ghost use Rattle.body.specs.Quote.{quoteOf};
+ghost use Rattle.raw.specs.Raw.{rawStepOf, rawBody, rawOf};
 ghost use Rattle.raw.specs.Scan.{rawPlain, markOf, passes, flags, rawRun};
 
 // What stands at i of a raw body with h hashes.

@@ -16,11 +16,13 @@ use Rattle.suffix.specs.Suffix.{suffixFault}
 use Rattle.utf8.specs.Cut.{Aligned}
 use Rattle.utf8.proofs.Aligned.{aligned-rest}
 use Rattle.body.specs.Step.{close}
-use Rattle.body.specs.Body.{Body, body, rawBody}
+use Rattle.body.specs.Body.{Body, body}
 use Rattle.body.specs.Quote.{closing, afterBody, stringOf}
-use Rattle.body.proofs.Strings.{suffix-good, raw-is}
+use Rattle.body.proofs.Strings.{suffix-good}
 use Rattle.body_value.proofs.Complete as pieces
-use Rattle.body_value.proofs.Exact.{raw-exact}
+use Rattle.raw.specs.Raw.{rawBody}
+use Rattle.raw.proofs.Strings.{raw-is}
+use Rattle.raw.proofs.Contents.{raw-exact}
 use Rattle.string.specs.String.{kindOf, offsetOf, openingBy, openingAt, ofQuote, readBy, stringRead, hashesAt, valueBy, stringValue}
 use Rattle.string.specs.Parts.{letterOf, hashes, QuotedParts, RawParts, Tiled, as-quoted, as-raw}
 use Rattle.string.specs.declared.Opening.{Opening}

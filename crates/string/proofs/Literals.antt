@@ -17,16 +17,18 @@ use Rattle.scan.proofs.Cases.{cond-in, cond-eq, cond-lt}
 use Rattle.scan.proofs.Runs.{run-le}
 use Rattle.escape.specs.declared.Allowed.{Allowed}
 use Rattle.escape.specs.declared.Allowed.the-variants.{Text, Bytes, C}
-use Rattle.body.specs.Step.{End, close, refuse, stepOf, rawStepOf}
-use Rattle.body.specs.Body.{Body, body, rawBody}
-use Rattle.body.specs.Quote.{Quote, closing, afterEnd, stringOf, rawFrom, rawAt, rawOf}
+use Rattle.body.specs.Step.{End, close, refuse, stepOf}
+use Rattle.body.specs.Body.{Body, body}
+use Rattle.body.specs.Quote.{Quote, closing, afterEnd, stringOf}
 use Rattle.body.specs.Quote as quote
 use Rattle.body.specs.declared.Quoted.the-variants as answer
-use Rattle.body.proofs.Within.{step-in, raw-in}
+use Rattle.body.proofs.Within.{step-in}
 use Rattle.body.proofs.Bodies as bodies
 use Rattle.body.proofs.Strings.{suffix-good, suffix-bad}
-use Rattle.body.proofs.Raws.{raw-value}
 use Rattle.body_value.proofs.Values.{as-it-stands}
+use Rattle.raw.specs.Raw.{rawStepOf, rawBody, rawFrom, rawAt, rawOf}
+use Rattle.raw.proofs.Steps.{raw-in}
+use Rattle.raw.proofs.Bodies.{raw-value}
 use Rattle.string.specs.String.{offsetOf, openingBy, openingAt, startFault, ofQuote, parsedOf, readBy, stringRead, hashesAt, valueBy, stringValue}
 use Rattle.string.specs.Inner.{innerBy, innerOf}
 use Rattle.string.specs.declared.Inner.{Inner}

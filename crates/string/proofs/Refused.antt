@@ -8,9 +8,11 @@ use lib.ListN.{length}
 use Rattle.err.specs.Outcome.{Place, Outcome, refused, accepted, RefusedIn}
 use Rattle.escape.specs.declared.Allowed.{Allowed}
 use Rattle.escape.specs.declared.Allowed.the-variants.{Text, Bytes, C}
-use Rattle.body.specs.Quote.{Quote, stringOf, rawOf}
+use Rattle.body.specs.Quote.{Quote, stringOf}
 use Rattle.body.specs.Quote as quote
-use Rattle.body.proofs.Strings.{string-refused, raw-refused}
+use Rattle.body.proofs.Strings.{string-refused}
+use Rattle.raw.specs.Raw.{rawOf}
+use Rattle.raw.proofs.Strings.{raw-refused}
 use Rattle.string.specs.String.{offsetOf, openingAt, startFault, ofQuote, readBy, stringRead}
 use Rattle.string.specs.declared.Opening.{Opening}
 use Rattle.string.specs.declared.Opening.the-variants as opening

@@ -15,12 +15,13 @@ use Rattle.escape.specs.declared.Allowed.{Allowed}
 use Rattle.escape.specs.declared.Allowed.the-variants.{Text, Bytes, C}
 use Rattle.suffix.specs.Suffix.{suffixFault}
 use Rattle.body.specs.Step.{End, close, refuse}
-use Rattle.body.specs.Body.{Body, body, rawBody}
-use Rattle.body.specs.Quote.{Quote, closing, suffixed, afterEnd, stringOf, rawFrom, rawAt, rawOf}
-use Rattle.body.specs.Pieces.{RawContent}
-use Rattle.body.proofs.Raws.{raw-value}
+use Rattle.body.specs.Body.{Body, body}
+use Rattle.body.specs.Quote.{Quote, closing, suffixed, afterEnd, stringOf}
 use Rattle.body_value.proofs.Sound as content
-use Rattle.body_value.proofs.Exact.{raw-exact}
+use Rattle.raw.specs.Raw.{rawBody, rawFrom, rawAt, rawOf}
+use Rattle.raw.specs.Content.{RawContent}
+use Rattle.raw.proofs.Bodies.{raw-value}
+use Rattle.raw.proofs.Contents.{raw-exact}
 use Rattle.string.specs.String.{kindOf, offsetOf, openingBy, openingAt, startFault, ofQuote, readBy, stringRead}
 use Rattle.string.specs.String.{hashesAt, valueBy, stringValue}
 use Rattle.string.specs.Parts.{letterOf, hashes, Tiled, as-quoted, as-raw}

@@ -12,7 +12,8 @@ use Rattle.scan.specs.Sets.{except}
 use Rattle.utf8.specs.Utf8.{Utf8}
 use Rattle.escape.specs.declared.Allowed.{Allowed}
 use Rattle.escape.specs.declared.Allowed.the-variants.{Text, C}
-use Rattle.body_value.proofs.Contents.{content-no-zero, raw-no-zero, cut-at-ascii, content-utf8}
+use Rattle.body_value.proofs.Contents.{content-no-zero, cut-at-ascii, content-utf8}
+use Rattle.raw.proofs.Contents.{raw-no-zero}
 use Rattle.string.specs.String.{stringRead, stringValue}
 use Rattle.string.specs.Parts.{letterOf, hashes, Tiled, as-quoted, as-raw}
 use Rattle.string.proofs.Literals.{QuotedLit, RawLit, read-is}

@@ -8,7 +8,8 @@ use Rattle.err.specs.Outcome.{Values, notRaw, raw, decoded}
 use Rattle.escape.specs.declared.Allowed.{Allowed}
 use Rattle.escape.specs.declared.Allowed.the-variants.{Text, Bytes, C}
 use Rattle.suffix.specs.Suffix.{suffixFault}
-use Rattle.body.specs.Pieces.{Content, RawContent}
+use Rattle.body.specs.Pieces.{Content}
+use Rattle.raw.specs.Content.{RawContent}
 
 -- the kind's letter: none, `b`, `c`
 abbrev pub letterOf : Allowed → List ℕ

@@ -6,17 +6,15 @@ use mathlib.Core.List.{List, [], _∷_}
 use lib.Dec.{eqb}
 use lib.ListN.{getD, drop}
 use Rattle.err.specs.Outcome.{Outcome, refused, accepted, none, between, decoded}
-use Rattle.err.specs.Numbers.{numberOf}
-use Rattle.err.specs.Reading.{placeOf}
 use Rattle.scan.specs.Run.{run}
 use Rattle.scan.specs.Sets.{only}
 use Rattle.escape.specs.declared.Allowed.{Allowed}
 use Rattle.escape.specs.declared.Allowed.the-variants.{Text, Bytes, C}
-use Rattle.body.specs.Body.{body, rawBody}
-use Rattle.body.specs.Quote.{Quote, quoteOf, stringOf, rawOf}
+use Rattle.body.specs.Body.{body}
+use Rattle.body.specs.Quote.{Quote, quoteOf, stringOf}
 use Rattle.body.specs.Quote as quote
 use Rattle.body.specs.declared.Quoted.{Quoted}
-use Rattle.body.specs.declared.Quoted.the-variants as quoted
+use Rattle.raw.specs.Raw.{rawBody, rawOf}
 use Rattle.string.specs.declared.Opening.{Opening}
 use Rattle.string.specs.declared.Opening.the-variants as opening
 

@@ -8,11 +8,11 @@ use native.Mathlib.Omega.{arith}
 use borrow.Author.Tests.{leb-true, leb-false}
 use lib.ListN.{length, getD, take, drop}
 use Rattle.scan.proofs.Bytes.{byte-inside}
-use Rattle.body.specs.Step.{rawStepOf}
-use Rattle.body.proofs.Steps as steps
 use Rattle.body.proofs.Bodies.{Passed}
-use Rattle.body.proofs.Raws.{raw-start, raw-more, raw-measures}
+use Rattle.raw.specs.Raw.{rawStepOf}
 use Rattle.raw.specs.Scan.{markOf, rawRun}
+use Rattle.raw.proofs.Steps as steps
+use Rattle.raw.proofs.Bodies.{raw-start, raw-more, raw-measures}
 use Rattle.raw.proofs.Passes.{passed-scan, scan-closes, scan-ends}
 use Rattle.raw.proofs.measure_raw.Statement.{statement}
 use Rattle.raw.proofs.measure_raw.Tie as tie

@@ -6,8 +6,8 @@ use lib.ListN.{drop}
 use Rattle.scan.specs.Run.{run}
 use Rattle.scan.specs.Sets.{only}
 use Rattle.scan.proofs.Parts.{part-to-end}
-use Rattle.body.proofs.Steps as steps
 use borrow.Author.Needs.{needs}
+use Rattle.raw.proofs.Steps as steps
 use Rattle.raw.proofs.raw_step.Statement.{statement}
 use Rattle.raw.proofs.raw_step.Tie as tie
 

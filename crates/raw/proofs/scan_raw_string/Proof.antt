@@ -8,11 +8,12 @@ use Rattle.scan.specs.Run.{run}
 use Rattle.scan.specs.Sets.{only}
 use Rattle.scan.proofs.Parts.{part-to-end}
 use Rattle.scan.proofs.Runs.{run-le}
-use Rattle.body.specs.Step.{rawStepOf}
-use Rattle.body.specs.Body.{rawBody, Measures}
-use Rattle.body.proofs.Within.{raw-in}
-use Rattle.body.proofs.Strings as strings
+use Rattle.body.specs.Body.{Measures}
+use Rattle.body.proofs.Strings.{fitting, measured}
 use borrow.Author.Needs.{needs}
+use Rattle.raw.specs.Raw.{rawStepOf, rawBody}
+use Rattle.raw.proofs.Steps.{raw-in}
+use Rattle.raw.proofs.Strings as strings
 use Rattle.raw.proofs.scan_raw_string.Statement.{statement}
 use Rattle.raw.proofs.scan_raw_string.Tie as tie
 
@@ -85,12 +86,12 @@ after-body-requires : tie.Need-after-body-requires
 after-body-requires c κs =
     let a = c .before .before .before .before .before .before .before .before .before .args in
     let h = c .before .before .before .before .before .before .run-len .result in
-    (refl, strings.fitting (rawStepOf (a .k) h) (h + 1) (raw-in _ _) (a .text .now) (a .offset + h + 1) (inner (c .before .before)) (c .measure-raw .result) (is c))
+    (refl, fitting (rawStepOf (a .k) h) (h + 1) (raw-in _ _) (a .text .now) (a .offset + h + 1) (inner (c .before .before)) (c .measure-raw .result) (is c))
 
 returns-4 : tie.Need-returns-4
 returns-4 c =
     c .after-body .ensures
-    ∙ strings.measured _ _ _ _ _ (is (c .before))
+    ∙ measured _ _ _ _ _ (is (c .before))
     ∙ strings.raw-is _ _ _ _ (count (c .before .before .before .before .before .before .before)) (c .before .before .before .before .before .before .if1 .left) (c .before .before .before .before .before .if2 .left) (c .before .before .before .if3 .left)
 
 pub scan-raw-string-spec : {M : Type 1} → statement M

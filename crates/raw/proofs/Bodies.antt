@@ -16,11 +16,13 @@ use Rattle.escape.specs.Escape.{bytesOf}
 use Rattle.escape.specs.declared.Allowed.{Allowed}
 use Rattle.escape.specs.declared.Unescaped.{Unescaped}
 use Rattle.escape.specs.declared.Unescaped.the-variants.{Byte}
-use Rattle.body.specs.Step.{End, Next, piece, stop, endOf, plainOf, rawByte, rawStepOf}
-use Rattle.body.specs.Body.{rawBody, Measures}
+use Rattle.body.specs.Step.{End, Next, piece, stop, endOf, plainOf}
+use Rattle.body.specs.Body.{Measures}
 use Rattle.body.specs.declared.Measured.{Measured}
-use Rattle.body.proofs.Within.{raw-in}
+use Rattle.body.proofs.Bytes.{take-none, take-one}
 use Rattle.body.proofs.Bodies.{Passed, start, induct, bounds, more, measures}
+use Rattle.raw.specs.Raw.{rawByte, rawStepOf, rawBody}
+use Rattle.raw.proofs.Steps.{raw-in}
 
 -- a piece is the first byte
 abbrev OneByte : List ℕ → Next → Type 0
@@ -37,14 +39,6 @@ one-byte k h (b ∷ s) =
     cond-eq P b 34 (λ f. tt) λ f.
     cond-in P (not (allowNul k) && eqb b 0) (λ g. tt) λ g.
     cond-in P (not (unicode k) && ltb 127 b) (λ g. tt) λ g. (refl, refl)
-
-pub take-none : (s : List ℕ) → take 0 s ≡ []
-take-none [] = refl
-take-none (b ∷ s) = refl
-
-pub take-one : (s : List ℕ) → 0 < length s → take 1 s ≡ getD s 0 0 ∷ []
-take-one [] h = absurd (omega arith)
-take-one (b ∷ s) h = ap (λ (l : List ℕ). b ∷ l) (take-none s)
 
 module _ (k : Allowed) (h : ℕ) where
   -- a piece stands for the bytes that it has
