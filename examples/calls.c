@@ -1,11 +1,11 @@
 /*
- * The calls beside settling, each answer on a line of its own.
+ * The calls beside settling, the result of each on a line of its own.
  *
- *     calls {read ENTRY TEXT | value TYPE TEXT | decode ENTRY TEXT ROOM}
+ *     calls {read ENTRY TEXT | value TYPE TEXT | decode ENTRY TEXT ROOM | suffix KIND NAME}
  *
- * read prints the reading's five numbers. value prints the answer, and what *value holds then, which was 7. decode prints the answer,
- * and in hexadecimal what a buffer of ROOM bytes holds then, each of which was a5. Anything else is said on standard error, with exit
- * status 2.
+ * read prints the reading's five numbers. value prints what is returned, and what *value holds then, which was 7. decode prints what is
+ * returned, and in hexadecimal what a buffer of ROOM bytes holds then, each of which was a5. suffix prints the code of the type that NAME
+ * stands for, an integer type for KIND 2 and a float type for KIND 3. Anything else is said on standard error, with exit status 2.
  */
 #include <stdio.h>
 #include <stdlib.h>
@@ -39,20 +39,20 @@ static uint64_t number_of(const char *word)
 
 static void print_reading(uint64_t entry, const uint8_t *text, size_t len)
 {
-    uint64_t *answer = memory(KEYBASKET_NUMBERS * sizeof *answer);
-    keybasket_read(entry, text, len, answer);
+    uint64_t *numbers = memory(KEYBASKET_NUMBERS * sizeof *numbers);
+    keybasket_read(entry, text, len, numbers);
     for (int i = 0; i < KEYBASKET_NUMBERS; i++)
-        printf(i == 0 ? "%llu" : " %llu", (unsigned long long)answer[i]);
+        printf(i == 0 ? "%llu" : " %llu", (unsigned long long)numbers[i]);
     putchar('\n');
-    free(answer);
+    free(numbers);
 }
 
 static void print_value(uint64_t type, const uint8_t *text, size_t len)
 {
     uint64_t *value = memory(sizeof *value);
     *value = 7;
-    size_t answer = keybasket_value(type, text, len, value);
-    printf("%zu %llu\n", answer, (unsigned long long)*value);
+    size_t result = keybasket_value(type, text, len, value);
+    printf("%zu %llu\n", result, (unsigned long long)*value);
     free(value);
 }
 
@@ -64,6 +64,14 @@ static void print_decoded(uint64_t entry, const uint8_t *text, size_t len, size_
         printf("%02x", out[i]);
     putchar('\n');
     free(out);
+}
+
+static void print_type(uint64_t kind, const uint8_t *name, size_t len)
+{
+    if (kind != KEYBASKET_INTEGER && kind != KEYBASKET_FLOAT)
+        fail("KIND is 2 or 3");
+    uint64_t type = kind == KEYBASKET_INTEGER ? keybasket_integer_from_suffix(name, len) : keybasket_float_from_suffix(name, len);
+    printf("%llu\n", (unsigned long long)type);
 }
 
 int main(int argc, char **argv)
@@ -84,8 +92,10 @@ int main(int argc, char **argv)
             print_reading(code, text, len);
         } else if (strcmp(call, "value") == 0) {
             print_value(code, text, len);
+        } else if (strcmp(call, "suffix") == 0) {
+            print_type(code, text, len);
         } else {
-            fail("a call is read, value or decode");
+            fail("a call is read, value, decode or suffix");
         }
         free(text);
     }

@@ -13,57 +13,6 @@
 
 #include "keybasket.h"
 
-static const char *const names[] = {
-    [KEYBASKET_EMPTY] = "Empty",
-    [KEYBASKET_UNEXPECTED_CHAR] = "UnexpectedChar",
-    [KEYBASKET_INVALID_LITERAL] = "InvalidLiteral",
-    [KEYBASKET_DOES_NOT_START_WITH_DIGIT] = "DoesNotStartWithDigit",
-    [KEYBASKET_INVALID_DIGIT] = "InvalidDigit",
-    [KEYBASKET_NO_DIGITS] = "NoDigits",
-    [KEYBASKET_NO_EXPONENT_DIGITS] = "NoExponentDigits",
-    [KEYBASKET_UNKNOWN_ESCAPE] = "UnknownEscape",
-    [KEYBASKET_UNTERMINATED_ESCAPE] = "UnterminatedEscape",
-    [KEYBASKET_INVALID_X_ESCAPE] = "InvalidXEscape",
-    [KEYBASKET_NON_ASCII_X_ESCAPE] = "NonAsciiXEscape",
-    [KEYBASKET_UNICODE_ESCAPE_IN_BYTE_LITERAL] = "UnicodeEscapeInByteLiteral",
-    [KEYBASKET_INVALID_START_OF_UNICODE_ESCAPE] = "InvalidStartOfUnicodeEscape",
-    [KEYBASKET_UNICODE_ESCAPE_WITHOUT_BRACE] = "UnicodeEscapeWithoutBrace",
-    [KEYBASKET_NON_HEX_DIGIT_IN_UNICODE_ESCAPE] = "NonHexDigitInUnicodeEscape",
-    [KEYBASKET_TOO_MANY_DIGIT_IN_UNICODE_ESCAPE] = "TooManyDigitInUnicodeEscape",
-    [KEYBASKET_INVALID_UNICODE_ESCAPE_CHAR] = "InvalidUnicodeEscapeChar",
-    [KEYBASKET_UNTERMINATED_UNICODE_ESCAPE] = "UnterminatedUnicodeEscape",
-    [KEYBASKET_UNTERMINATED_CHAR_LITERAL] = "UnterminatedCharLiteral",
-    [KEYBASKET_OVERLONG_CHAR_LITERAL] = "OverlongCharLiteral",
-    [KEYBASKET_EMPTY_CHAR_LITERAL] = "EmptyCharLiteral",
-    [KEYBASKET_UNTERMINATED_BYTE_LITERAL] = "UnterminatedByteLiteral",
-    [KEYBASKET_OVERLONG_BYTE_LITERAL] = "OverlongByteLiteral",
-    [KEYBASKET_EMPTY_BYTE_LITERAL] = "EmptyByteLiteral",
-    [KEYBASKET_NON_ASCII_IN_BYTE_LITERAL] = "NonAsciiInByteLiteral",
-    [KEYBASKET_UNESCAPED_SINGLE_QUOTE] = "UnescapedSingleQuote",
-    [KEYBASKET_UNESCAPED_SPECIAL_WHITESPACE] = "UnescapedSpecialWhitespace",
-    [KEYBASKET_DOES_NOT_START_WITH_QUOTE] = "DoesNotStartWithQuote",
-    [KEYBASKET_UNTERMINATED_RAW_STRING] = "UnterminatedRawString",
-    [KEYBASKET_UNTERMINATED_STRING] = "UnterminatedString",
-    [KEYBASKET_INVALID_STRING_LITERAL_START] = "InvalidStringLiteralStart",
-    [KEYBASKET_INVALID_BYTE_LITERAL_START] = "InvalidByteLiteralStart",
-    [KEYBASKET_INVALID_BYTE_STRING_LITERAL_START] = "InvalidByteStringLiteralStart",
-    [KEYBASKET_INVALID_C_STRING_LITERAL_START] = "InvalidCStringLiteralStart",
-    [KEYBASKET_DISALLOWED_NUL_ESCAPE] = "DisallowedNulEscape",
-    [KEYBASKET_NUL_BYTE] = "NulByte",
-    [KEYBASKET_CARRIAGE_RETURN] = "CarriageReturn",
-    [KEYBASKET_TOO_MANY_HASHES] = "TooManyHashes",
-    [KEYBASKET_INVALID_SUFFIX] = "InvalidSuffix",
-    [KEYBASKET_UNEXPECTED_INTEGER_LIT] = "UnexpectedIntegerLit",
-    [KEYBASKET_INTEGER_SUFFIX_STARTING_WITH_E] = "IntegerSuffixStartingWithE",
-    [KEYBASKET_BAD_CODE] = "BadCode",
-    [KEYBASKET_TEXT_TOO_LONG] = "TextTooLong",
-    [KEYBASKET_NOT_UTF8] = "NotUtf8",
-    [KEYBASKET_NO_VALUE] = "NoValue",
-    [KEYBASKET_POWER_TOO_FAR] = "PowerTooFar",
-    [KEYBASKET_FORM_TOO_LONG] = "FormTooLong",
-    [KEYBASKET_OUT_TOO_SMALL] = "OutTooSmall",
-};
-
 static void fail(const char *why)
 {
     fprintf(stderr, "desk: %s\n", why);
@@ -116,14 +65,13 @@ int main(int argc, char **argv)
     uint8_t *out = memory(room);
     memset(out, 0, room);
 
-    size_t answer = keybasket_settle(text, len, out, room);
-    int refused = answer >= KEYBASKET_REFUSED;
+    size_t result = keybasket_settle(text, len, out, room);
+    int refused = result >= KEYBASKET_REFUSED;
     if (refused) {
-        size_t number = answer - KEYBASKET_REFUSED;
-        int known = number >= 1 && number < sizeof names / sizeof names[0];
-        printf("refused: %s (%zu)\n", known ? names[number] : "?", number);
+        size_t number = result - KEYBASKET_REFUSED;
+        printf("refused: %s (%zu)\n", keybasket_refusal_name(number), number);
     } else {
-        fwrite(out, 1, answer, stdout);
+        fwrite(out, 1, result, stdout);
         putchar('\n');
     }
     free(out);

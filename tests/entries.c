@@ -1,6 +1,6 @@
 /*
  * Answers the batch format (docs/BATCH.md) by the entries for C: records from standard input, one line for each to standard output. The span of
- * a refusal, and the kind of a settled text, are asked of keybasket_read. `I` and `F` have no entry for C: `bad operation`.
+ * a refusal, and the kind of a settled text, are asked of keybasket_read.
  */
 #include <stdio.h>
 #include <string.h>
@@ -143,6 +143,39 @@ static void settle_line(void)
     print_state(0);
 }
 
+static void type_line(uint64_t type)
+{
+    printf("ok");
+    print(type);
+}
+
+static void record_line(uint8_t operation, uint64_t code)
+{
+    switch (operation) {
+    case 'R':
+        read_line(code);
+        break;
+    case 'V':
+        value_line(code);
+        break;
+    case 'D':
+        decode_line(code);
+        break;
+    case 'S':
+        settle_line();
+        break;
+    case 'I':
+        type_line(keybasket_integer_from_suffix(text, text_len));
+        break;
+    case 'F':
+        type_line(keybasket_float_from_suffix(text, text_len));
+        break;
+    default:
+        printf("bad operation");
+    }
+    putchar('\n');
+}
+
 int main(void)
 {
     uint8_t head[10];
@@ -155,23 +188,7 @@ int main(void)
             return 0;
         }
         memset(out, FILL, out_len + BEHIND);
-        switch (head[0]) {
-        case 'R':
-            read_line(head[1]);
-            break;
-        case 'V':
-            value_line(head[1]);
-            break;
-        case 'D':
-            decode_line(head[1]);
-            break;
-        case 'S':
-            settle_line();
-            break;
-        default:
-            printf("bad operation");
-        }
-        putchar('\n');
+        record_line(head[0], head[1]);
     }
     if (got > 0)
         puts("bad record");

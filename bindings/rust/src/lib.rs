@@ -1,23 +1,27 @@
-//! Keybasket for Rust: the reading of a Rust literal, an integer's value, a string's decoded bytes, and the settled form.
+//! Keybasket for Rust: the reading of a Rust literal, an integer's value, a string's decoded bytes, the settled form, and the type that
+//! a suffix names.
 //!
-//! Every text has an answer, of any bytes and any length: no call panics, allocates, or keeps anything for the next one. What a call
-//! answers is what docs/01-scope.md says, and that is proved of the calls behind this crate; the crate itself only puts their numbers
+//! Every text is taken, of any bytes and any length: no call panics, allocates, or keeps anything for the next one. What a call
+//! returns is what docs/01-scope.md says. That is proved of the C calls that this crate makes; the crate itself only puts their numbers
 //! into types. It links libkeybasket.a, for x86-64 Linux; build.rs says how the archive is found.
 //!
 //! ```
 //! use keybasket::{decode, read, settle, value, Entry, IntegerType, Literal, Quoted};
 //!
-//! let found = read(Entry::Any, b"0x_1Fu8")?;
+//! let text = b"0x_1Fu8";
+//! let found = read(Entry::Any, text)?;
 //! assert_eq!(found.literal, Literal::Integer { base: 16, digits: 2..5 });
 //! assert_eq!(found.start_suffix, 5);
-//! assert_eq!(value(IntegerType::U8, b"0x_1F")?, 31);
+//! assert_eq!(IntegerType::from_suffix(&text[found.start_suffix..]), Some(IntegerType::U8));
+//! assert_eq!(value(IntegerType::U8, text)?, 31);
 //!
 //! let mut out = [0; 16];
 //! assert_eq!(decode(Quoted::String, br#""a\n""#, &mut out)?, b"a\n");
 //! assert_eq!(settle(b"1.50e1", &mut out)?, b"15e0");
 //!
 //! let refusal = read(Entry::Any, b"'''").unwrap_err();
-//! assert_eq!((refusal.number, refusal.span), (26, Some(1..2)));
+//! assert_eq!((refusal.number, refusal.name()), (26, "UnescapedSingleQuote"));
+//! assert_eq!(refusal.span, Some(1..2));
 //! # Ok::<(), keybasket::Refusal>(())
 //! ```
 #![deny(missing_docs, clippy::undocumented_unsafe_blocks)]
@@ -36,12 +40,15 @@ compile_error!("keybasket: libkeybasket.a is for x86-64 Linux");
 /// No text is read that is longer, and no form or decoded value is longer: a buffer of this many bytes has room for each.
 pub const LONGEST: usize = 65536;
 
-/// A call's answer from here on is this plus a refusal number.
+/// What a call returns from here on is this plus a refusal number.
 const REFUSED: usize = 100000;
+
+/// The names of refusals 1, 2 and so on, as build.rs takes them from keybasket.h.
+const NAMES: &[&str] = include!(concat!(env!("OUT_DIR"), "/names.rs"));
 
 // The same as in include/keybasket.h.
 extern "C" {
-    fn keybasket_read(entry: u64, text: *const u8, text_len: usize, answer: *mut u64);
+    fn keybasket_read(entry: u64, text: *const u8, text_len: usize, numbers: *mut u64);
     fn keybasket_value(ty: u64, text: *const u8, text_len: usize, value: *mut u64) -> usize;
     fn keybasket_decode(
         entry: u64,
@@ -51,6 +58,8 @@ extern "C" {
         out_len: usize,
     ) -> usize;
     fn keybasket_settle(text: *const u8, text_len: usize, out: *mut u8, out_len: usize) -> usize;
+    fn keybasket_integer_from_suffix(name: *const u8, name_len: usize) -> u64;
+    fn keybasket_float_from_suffix(name: *const u8, name_len: usize) -> u64;
 }
 
 /// What a text is read as: any literal, or one of a kind.
@@ -68,7 +77,7 @@ pub enum Entry {
     CString = 8,
 }
 
-/// A type whose largest value an integer may have.
+/// An integer type that a suffix can name. `U128`, `Usize`, `I128` and `Isize` have no values here: [`value`] refuses them with 42.
 #[derive(Clone, Copy, Debug, PartialEq, Eq, Hash)]
 #[allow(missing_docs)]
 pub enum IntegerType {
@@ -76,10 +85,58 @@ pub enum IntegerType {
     U16 = 2,
     U32 = 3,
     U64 = 4,
+    U128 = 5,
+    Usize = 6,
     I8 = 7,
     I16 = 8,
     I32 = 9,
     I64 = 10,
+    I128 = 11,
+    Isize = 12,
+}
+
+impl IntegerType {
+    /// All of them, by type code.
+    pub const ALL: [IntegerType; 12] = [
+        IntegerType::U8,
+        IntegerType::U16,
+        IntegerType::U32,
+        IntegerType::U64,
+        IntegerType::U128,
+        IntegerType::Usize,
+        IntegerType::I8,
+        IntegerType::I16,
+        IntegerType::I32,
+        IntegerType::I64,
+        IntegerType::I128,
+        IntegerType::Isize,
+    ];
+
+    /// The integer type that a name stands for, as `u8`; none for every other name, of any bytes and any length.
+    pub fn from_suffix(name: &[u8]) -> Option<IntegerType> {
+        // SAFETY: the name's pointer and length are those of a slice, which is readable, and not null even where it is empty.
+        let code = unsafe { keybasket_integer_from_suffix(name.as_ptr(), name.len()) };
+        Self::ALL.into_iter().find(|&ty| ty as u64 == code)
+    }
+}
+
+/// A float type that a suffix can name.
+#[derive(Clone, Copy, Debug, PartialEq, Eq, Hash)]
+#[allow(missing_docs)]
+pub enum FloatType {
+    F32 = 13,
+    F64 = 14,
+}
+
+impl FloatType {
+    /// The float type that a name stands for, `f32` or `f64`; none for every other name, of any bytes and any length.
+    pub fn from_suffix(name: &[u8]) -> Option<FloatType> {
+        // SAFETY: the name's pointer and length are those of a slice, as in `IntegerType::from_suffix`.
+        let code = unsafe { keybasket_float_from_suffix(name.as_ptr(), name.len()) };
+        [FloatType::F32, FloatType::F64]
+            .into_iter()
+            .find(|&ty| ty as u64 == code)
+    }
 }
 
 /// A kind of literal that has decoded bytes.
@@ -104,17 +161,26 @@ impl Quoted {
 /// Why and where a text is refused.
 #[derive(Clone, Debug, PartialEq, Eq, Hash)]
 pub struct Refusal {
-    /// The number of docs/01-scope.md's table, 1 to 48; the names are in include/keybasket.h.
+    /// The number of docs/01-scope.md's table, 1 to 48.
     pub number: u64,
     /// The bytes of the text that are at fault, where the table has a span.
     pub span: Option<Range<usize>>,
 }
 
+impl Refusal {
+    /// The number's name in docs/01-scope.md's table, `Empty` for 1 to `OutTooSmall` for 48; `?` for a number that has none.
+    pub fn name(&self) -> &'static str {
+        let at = self.number.wrapping_sub(1) as usize;
+        NAMES.get(at).copied().unwrap_or("?")
+    }
+}
+
 impl fmt::Display for Refusal {
     fn fmt(&self, f: &mut fmt::Formatter<'_>) -> fmt::Result {
+        write!(f, "refused: {} ({})", self.name(), self.number)?;
         match &self.span {
-            Some(span) => write!(f, "refused: {} at {}-{}", self.number, span.start, span.end),
-            None => write!(f, "refused: {}", self.number),
+            Some(span) => write!(f, " at {}-{}", span.start, span.end),
+            None => Ok(()),
         }
     }
 }
@@ -142,7 +208,7 @@ pub enum Literal {
         /// Where its digits stand, without the base's prefix; there may be `_` among them.
         digits: Range<usize>,
     },
-    /// A float. A part that is missing ends where the part in front of it ends.
+    /// A float. A part that is missing ends where the part before it ends.
     Float {
         /// Where the integer part ends.
         end_integer_part: usize,
@@ -174,22 +240,38 @@ pub struct Body {
 
 /// Reads a text as any literal or as one of a kind.
 pub fn read(entry: Entry, text: &[u8]) -> Result<Reading, Refusal> {
-    let mut answer = [0; 5];
-    // SAFETY: the text's pointer and length are those of a slice, which is readable, and not null even where it is empty; answer is a
-    // local of five numbers, which nothing else refers to.
-    unsafe { keybasket_read(entry as u64, text.as_ptr(), text.len(), answer.as_mut_ptr()) };
-    let [kind, second, a, b, c] = answer;
-    let body = || Body {
+    let mut numbers = [0; 5];
+    // SAFETY: the text's pointer and length are those of a slice, which is readable, and not null even where it is empty; numbers is a
+    // local of five, which nothing else refers to.
+    unsafe {
+        keybasket_read(
+            entry as u64,
+            text.as_ptr(),
+            text.len(),
+            numbers.as_mut_ptr(),
+        )
+    };
+    let [kind, second, values @ ..] = numbers;
+    if kind == 0 {
+        let [spanned, start, end] = values;
+        return Err(Refusal {
+            number: second,
+            span: (spanned == 1).then_some(start as usize..end as usize),
+        });
+    }
+    Ok(Reading {
+        literal: literal(kind, values),
+        start_suffix: second as usize,
+    })
+}
+
+/// The literal of a kind, by the three numbers of its values.
+fn literal(kind: u64, [a, b, c]: [u64; 3]) -> Literal {
+    let body = Body {
         hashes: (a == 1).then_some(b as u8),
         value_len: c as usize,
     };
-    let literal = match kind {
-        0 => {
-            return Err(Refusal {
-                number: second,
-                span: (a == 1).then_some(b as usize..c as usize),
-            })
-        }
+    match kind {
         1 => Literal::Bool(a == 1),
         2 => Literal::Integer {
             base: a,
@@ -201,36 +283,33 @@ pub fn read(entry: Entry, text: &[u8]) -> Result<Reading, Refusal> {
             end_number_part: c as usize,
         },
         4 => Literal::Char(char::from_u32(a as u32).expect("a char's value is a scalar value")),
-        5 => Literal::String(body()),
+        5 => Literal::String(body),
         6 => Literal::Byte(a as u8),
-        7 => Literal::ByteString(body()),
-        8 => Literal::CString(body()),
+        7 => Literal::ByteString(body),
+        8 => Literal::CString(body),
         _ => unreachable!("there is no kind {kind}"),
-    };
-    Ok(Reading {
-        literal,
-        start_suffix: second as usize,
-    })
+    }
 }
 
-/// The number of an integer, where it is at most the type's largest. The text's suffix is read, but names no type here.
+/// The number of an integer, where it is at most the type's largest. The text's suffix is read, but names no type here. A type without
+/// values is refused with 42.
 pub fn value(ty: IntegerType, text: &[u8]) -> Result<u64, Refusal> {
     let mut number = 0;
     // SAFETY: the text's pointer and length are those of a slice, as in `read`; number is a local that nothing else refers to.
-    let answer = unsafe { keybasket_value(ty as u64, text.as_ptr(), text.len(), &mut number) };
-    if answer >= REFUSED {
-        return Err(refusal(answer, Entry::Integer, text));
+    let result = unsafe { keybasket_value(ty as u64, text.as_ptr(), text.len(), &mut number) };
+    if result >= REFUSED {
+        return Err(refusal(result, Entry::Integer, text));
     }
     Ok(number)
 }
 
-/// Writes the decoded bytes of a string, a byte string or a C string to the front of `out`, and hands them out. The bytes behind them keep
+/// Writes the decoded bytes of a string, a byte string or a C string to the front of `out`, and returns them. The bytes after them keep
 /// what they held; where the text is refused, all of them do.
 pub fn decode<'a>(kind: Quoted, text: &[u8], out: &'a mut [u8]) -> Result<&'a [u8], Refusal> {
     let entry = kind.entry();
     // SAFETY: both pointers and lengths are those of slices, as in `read`; out is lent to this call alone, so that it does not overlap
     // text, and a slice's bytes all have values.
-    let answer = unsafe {
+    let result = unsafe {
         keybasket_decode(
             entry as u64,
             text.as_ptr(),
@@ -239,33 +318,33 @@ pub fn decode<'a>(kind: Quoted, text: &[u8], out: &'a mut [u8]) -> Result<&'a [u
             out.len(),
         )
     };
-    if answer >= REFUSED {
-        return Err(refusal(answer, entry, text));
+    if result >= REFUSED {
+        return Err(refusal(result, entry, text));
     }
-    Ok(&out[..answer])
+    Ok(&out[..result])
 }
 
-/// Writes the settled form of any literal to the front of `out`, and hands it out. The bytes behind it keep what they held; where the text is
+/// Writes the settled form of any literal to the front of `out`, and returns it. The bytes after it keep what they held; where the text is
 /// refused, all of them do.
 ///
 /// Two texts that both have forms are the same in kind, exact value and suffix exactly when the forms are equal. Of a text without one this says
 /// nothing.
 pub fn settle<'a>(text: &[u8], out: &'a mut [u8]) -> Result<&'a [u8], Refusal> {
     // SAFETY: both pointers and lengths are those of slices, as in `decode`, and out is lent to this call alone.
-    let answer =
+    let result =
         unsafe { keybasket_settle(text.as_ptr(), text.len(), out.as_mut_ptr(), out.len()) };
-    if answer >= REFUSED {
-        return Err(refusal(answer, Entry::Any, text));
+    if result >= REFUSED {
+        return Err(refusal(result, Entry::Any, text));
     }
-    Ok(&out[..answer])
+    Ok(&out[..result])
 }
 
-/// The refusal that an answer stands for. Only reading answers a span, so the text is read once more for it, by the entry that the call
-/// reads by; a reading that is accepted leaves 45 to 48, which have none.
-fn refusal(answer: usize, entry: Entry, text: &[u8]) -> Refusal {
-    let span = read(entry, text).err().and_then(|refusal| refusal.span);
-    Refusal {
-        number: (answer - REFUSED) as u64,
-        span,
-    }
+/// The refusal that a returned number stands for. Only reading gives a span, so the text is read once more for it, by the entry that the
+/// call reads by. Where that reading is not refused with the same number, the call has refused by 42 or by 45 to 48, which have no span.
+fn refusal(result: usize, entry: Entry, text: &[u8]) -> Refusal {
+    let number = (result - REFUSED) as u64;
+    let same = read(entry, text)
+        .err()
+        .filter(|refusal| refusal.number == number);
+    same.unwrap_or(Refusal { number, span: None })
 }

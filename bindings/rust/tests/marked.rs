@@ -1,6 +1,7 @@
-//! The marked texts of docs/01-scope.md and some other rows of its table, by the four calls.
+//! The marked texts of docs/01-scope.md, some other rows of its table, and the names that suffixes have, by the calls.
 use keybasket::{
-    decode, read, settle, value, Body, Entry, IntegerType, Literal, Quoted, Refusal, LONGEST,
+    decode, read, settle, value, Body, Entry, FloatType, IntegerType, Literal, Quoted, Refusal,
+    LONGEST,
 };
 use std::ops::Range;
 
@@ -10,7 +11,7 @@ fn refused<T>(number: u64, span: Option<Range<usize>>) -> Result<T, Refusal> {
     Err(Refusal { number, span })
 }
 
-/// Settles a text into a buffer of some length; the bytes behind the form, or all of them, are as they were.
+/// Settles a text into a buffer of some length; the bytes after the form, or all of them, are as they were.
 fn settled(text: &[u8], room: usize) -> Result<Vec<u8>, Refusal> {
     let mut out = vec![BEFORE; room];
     let form = settle(text, &mut out).map(<[u8]>::to_vec);
@@ -135,7 +136,11 @@ fn refused_readings() {
     assert_eq!(read(Entry::Any, b"\xff"), refused(44, None));
     assert_eq!(
         read(Entry::Any, b"0b1e").unwrap_err().to_string(),
-        "refused: 41 at 1-2"
+        "refused: IntegerSuffixStartingWithE (41) at 1-2"
+    );
+    assert_eq!(
+        read(Entry::Any, b"").unwrap_err().to_string(),
+        "refused: Empty (1)"
     );
 }
 
@@ -169,6 +174,16 @@ fn values() {
     }
     assert_eq!(value(IntegerType::U64, b"0x"), refused(6, Some(2..2)));
     assert_eq!(value(IntegerType::U64, b""), refused(1, None));
+    // no values at all, whatever the text: 42 comes first, and without a span
+    for ty in [
+        IntegerType::U128,
+        IntegerType::Usize,
+        IntegerType::I128,
+        IntegerType::Isize,
+    ] {
+        assert_eq!(value(ty, b"1"), refused(42, None));
+        assert_eq!(value(ty, b"0x"), refused(42, None));
+    }
 }
 
 #[test]
@@ -187,4 +202,24 @@ fn decoded_bytes() {
         refused(35, Some(2..4))
     );
     assert_eq!(decoded(Quoted::String, b"a", 4), refused(31, Some(0..1)));
+}
+
+#[test]
+fn suffixes() {
+    for ty in IntegerType::ALL {
+        let name = format!("{ty:?}").to_lowercase();
+        assert_eq!(IntegerType::from_suffix(name.as_bytes()), Some(ty));
+        assert_eq!(FloatType::from_suffix(name.as_bytes()), None);
+    }
+    for (ty, name) in [(FloatType::F32, b"f32"), (FloatType::F64, b"f64")] {
+        assert_eq!(FloatType::from_suffix(name), Some(ty));
+        assert_eq!(IntegerType::from_suffix(name), None);
+    }
+    let others: [&[u8]; 7] = [b"", b"u", b"U8", b"u88", b"f3", b"F32", b"\xff"];
+    for name in others {
+        assert_eq!(IntegerType::from_suffix(name), None);
+        assert_eq!(FloatType::from_suffix(name), None);
+    }
+    assert_eq!(IntegerType::from_suffix(&[b'u'; LONGEST + 1]), None);
+    assert_eq!(FloatType::from_suffix(&[b'f'; LONGEST + 1]), None);
 }

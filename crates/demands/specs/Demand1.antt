@@ -14,6 +14,8 @@
 --   desk::keybasket_value         r ≡ codeOf (λ v. 0) (valueAt ty text), and value at exit ≡ valueAfter (valueAt ty text) (value at entry)
 --   desk::keybasket_decode        r ≡ codeOf (λ n. n) (decodeAt entry text (length of out at entry))
 --   desk::keybasket_settle        r ≡ codeOf (λ form. form .1) (settleAt text (length of out at entry))
+--   desk::keybasket_integer_from_suffix  r ≡ integerFromSuffix name
+--   desk::keybasket_float_from_suffix    r ≡ floatFromSuffix name
 -- "comes to an end": a contract is proved only of code that ends. "with the text untouched": the text is a shared slice, and the last clause of
 -- each contract says that at exit it is what it was at entry. The rest is said below, of the definitions that the contracts cite.
 -- Assumes nothing.

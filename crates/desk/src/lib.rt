@@ -9,6 +9,7 @@ ghost use Rattle.literal.specs.Readings.{readAt};
 ghost use Rattle.literal.specs.Values.{valueAt};
 ghost use Rattle.literal.specs.Decodes.{decodeAt};
 ghost use Rattle.literal.specs.Decodes as decodes;
+ghost use Rattle.literal.specs.Suffixes.{integerFromSuffix, floatFromSuffix};
 ghost use Rattle.settle.specs.Settled.{settledOf, settleAt, bufferAt};
 ghost use Rattle.numbers.specs.Numbers.{readingNumbers};
 ghost use Rattle.desk.specs.Code.{codeOf, valueAfter};
@@ -75,4 +76,22 @@ pub extern "C" fn keybasket_read(entry: u64, text: &[u8], answer: &mut [u64; 5])
     ensures { λ r. ⌜ now (text .exit) ≡ now (text .entry) ⌝ }
 {
     *answer = numbers::reading_numbers(literal::read(entry, text));
+}
+
+// The type code of the integer type that a name stands for, 1 to 12, or 0.
+#[no_mangle]
+pub extern "C" fn keybasket_integer_from_suffix(name: &[u8]) -> u64
+    ensures { λ r. ⌜ r ≡ integerFromSuffix (now (name .entry)) ⌝ }
+    ensures { λ r. ⌜ now (name .exit) ≡ now (name .entry) ⌝ }
+{
+    literal::integer_from_suffix(name) as u64
+}
+
+// The type code of the float type that a name stands for, 13 or 14, or 0.
+#[no_mangle]
+pub extern "C" fn keybasket_float_from_suffix(name: &[u8]) -> u64
+    ensures { λ r. ⌜ r ≡ floatFromSuffix (now (name .entry)) ⌝ }
+    ensures { λ r. ⌜ now (name .exit) ≡ now (name .entry) ⌝ }
+{
+    literal::float_from_suffix(name) as u64
 }
