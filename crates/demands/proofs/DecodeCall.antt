@@ -47,64 +47,64 @@ uncoded code n =
 
 -- ---- every call is answered
 
-decode-answered : (k : Allowed) (have : ℕ) (s : List ℕ) → length s ≤ 65536 → DecodeAnswered (length s) have (stringDecoded k s have)
+decode-answered : (k : Allowed) (room : ℕ) (s : List ℕ) → length s ≤ 65536 → DecodeAnswered (length s) room (stringDecoded k s room)
 unfolding stringDecoded
-decode-answered k have s l = go (stringRead k s) refl
+decode-answered k room s l = go (stringRead k s) refl
   where
     v : List ℕ
     v = stringValue k s
 
-    go : (o : Outcome) → stringRead k s ≡ o → DecodeAnswered (length s) have (ofReading o v have)
+    go : (o : Outcome) → stringRead k s ≡ o → DecodeAnswered (length s) room (ofReading o v room)
     go (refused n p) h = inl (refused-in k s h)
     go (accepted kind e vs) h =
-        cond-in (DecodeAnswered (length s) have) (leb (length v) have) (λ t. (leb-true (length v) have t, value-short k s h, omega (arith, value-short k s h)))
+        cond-in (DecodeAnswered (length s) room) (leb (length v) room) (λ t. (leb-true (length v) room t, value-short k s h, omega (arith, value-short k s h)))
         (λ t. inr (inr (inr (inr (inl refl))), refl))
 
-checked-answered : (k : Allowed) (have : ℕ) (s : List ℕ) → DecodeAnswered (length s) have (checkedDecode k s have)
+checked-answered : (k : Allowed) (room : ℕ) (s : List ℕ) → DecodeAnswered (length s) room (checkedDecode k s room)
 unfolding checkedDecode
-checked-answered k have s =
-    cond-eq (DecodeAnswered (length s) have) (textFault s) 0 (λ z. decode-answered k have s (fault-passed s z .0))
+checked-answered k room s =
+    cond-eq (DecodeAnswered (length s) room) (textFault s) 0 (λ z. decode-answered k room s (fault-passed s z .0))
     (λ z. or-42 (length s) (43 ∷ 44 ∷ 48 ∷ []) (textFault s) none (text-refused (length s) s (48 ∷ []) z))
 
-answered : (code have : ℕ) (s : List ℕ) → DecodeAnswered (length s) have (decodeAt code s have)
+answered : (code room : ℕ) (s : List ℕ) → DecodeAnswered (length s) room (decodeAt code s room)
 unfolding decodeAt
-answered code have s = go (kindCoded code)
+answered code room s = go (kindCoded code)
   where
-    go : (f : KindFound) → DecodeAnswered (length s) have (decodeBy f s have)
-    go (found.Kind k) = checked-answered k have s
+    go : (f : KindFound) → DecodeAnswered (length s) room (decodeBy f s room)
+    go (found.Kind k) = checked-answered k room s
     go found.Nothing = inr (inl refl, refl)
 
 -- ---- how
 
-bad-code : (code have : ℕ) (s : List ℕ) → (Decodes code → ⊥) → decodeAt code s have ≡ withheld 42 none
+bad-code : (code room : ℕ) (s : List ℕ) → (Decodes code → ⊥) → decodeAt code s room ≡ withheld 42 none
 unfolding decodeAt
-bad-code code have s n = rw (uncoded code n)
+bad-code code room s n = rw (uncoded code n)
 
-module _ (k : Allowed) (have : ℕ) (s : List ℕ) where
-  too-long : 65536 < length s → decodeAt (kindOf k) s have ≡ withheld 43 none
+module _ (k : Allowed) (room : ℕ) (s : List ℕ) where
+  too-long : 65536 < length s → decodeAt (kindOf k) s room ≡ withheld 43 none
   unfolding decodeAt checkedDecode
   too-long h = rw (coded k, long-fault s h)
 
-  not-utf8 : length s ≤ 65536 → (Utf8 s → ⊥) → decodeAt (kindOf k) s have ≡ withheld 44 none
+  not-utf8 : length s ≤ 65536 → (Utf8 s → ⊥) → decodeAt (kindOf k) s room ≡ withheld 44 none
   unfolding decodeAt checkedDecode
   not-utf8 h n = rw (coded k, utf8-fault s h n)
 
-  pub fine-decode : Readable s → decodeAt (kindOf k) s have ≡ stringDecoded k s have
+  pub fine-decode : Readable s → decodeAt (kindOf k) s room ≡ stringDecoded k s room
   unfolding decodeAt checkedDecode
   fine-decode f = rw (coded k, no-fault s (f .short) (f .utf8))
 
-  own : {n : ℕ} {p : Place} → Readable s → stringRead k s ≡ refused n p → decodeAt (kindOf k) s have ≡ withheld n p
+  own : {n : ℕ} {p : Place} → Readable s → stringRead k s ≡ refused n p → decodeAt (kindOf k) s room ≡ withheld n p
   unfolding stringDecoded
   own f h = rw (fine-decode f, h)
 
   module _ {kind e : ℕ} {vs : Values} (f : Readable s) (h : stringRead k s ≡ accepted kind e vs) where
-    too-small : have < length (stringValue k s) → decodeAt (kindOf k) s have ≡ withheld 48 none
+    too-small : room < length (stringValue k s) → decodeAt (kindOf k) s room ≡ withheld 48 none
     unfolding stringDecoded
-    too-small l = rw (fine-decode f, h, lt-leb (length (stringValue k s)) have l)
+    too-small l = rw (fine-decode f, h, lt-leb (length (stringValue k s)) room l)
 
-    decoded : length (stringValue k s) ≤ have → decodeAt (kindOf k) s have ≡ written (length (stringValue k s))
+    decoded : length (stringValue k s) ≤ room → decodeAt (kindOf k) s room ≡ written (length (stringValue k s))
     unfolding stringDecoded
-    decoded l = rw (fine-decode f, h, le-leb (length (stringValue k s)) have l)
+    decoded l = rw (fine-decode f, h, le-leb (length (stringValue k s)) room l)
 
 pub fine-buffer : (k : Allowed) (s buf : List ℕ) → Readable s → bufferAt (kindOf k) s buf ≡ bufferAfter k s buf
 unfolding bufferAt checkedBuffer

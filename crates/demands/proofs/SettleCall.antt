@@ -72,19 +72,19 @@ measure-is s = go (readAt 0 s) (coded more 0 s (omega arith))
 
 -- ---- settling
 
-answered : (have : ℕ) (s : List ℕ) → SettleAnswered (length s) have (settleAt s have)
+answered : (room : ℕ) (s : List ℕ) → SettleAnswered (length s) room (settleAt s room)
 unfolding settleAt
-answered have s = go (measureAt s) (measure-is s)
+answered room s = go (measureAt s) (measure-is s)
   where
-    go : (x : Settle) → Measure (length s) (formAt s) x → SettleAnswered (length s) have (fitted have x)
+    go : (x : Settle) → Measure (length s) (formAt s) x → SettleAnswered (length s) room (fitted room x)
     go (given (k, n)) h =
-        cond-in (SettleAnswered (length s) have) (leb n have) (λ t. (h .0, h .1, leb-true n have t, h .2))
+        cond-in (SettleAnswered (length s) room) (leb n room) (λ t. (h .0, h .1, leb-true n room t, h .2))
         (λ t. inr (inr (inr (inr (inr (inr (inl refl))))), refl))
     go (withheld n p) h = h
 
-own : (have : ℕ) (s : List ℕ) {n : ℕ} {p : Place} → readAt 0 s ≡ refused n p → settleAt s have ≡ withheld n p
+own : (room : ℕ) (s : List ℕ) {n : ℕ} {p : Place} → readAt 0 s ≡ refused n p → settleAt s room ≡ withheld n p
 unfolding settleAt measureAt
-own have s h = rw h
+own room s h = rw h
 
 untouched : (s buf : List ℕ) {n : ℕ} {p : Place} → settleAt s (length buf) ≡ withheld n p → bufferAt s buf ≡ buf
 unfolding bufferAt
@@ -128,8 +128,8 @@ number-answers =
       no-reading = λ code s h. ap readingNumbers h;
       value = λ code s h. (ap (codeOf (λ v. 0)) h, λ before. ap (λ (v : Valued). valueAfter v before) h);
       no-value = λ code s h. (ap (codeOf (λ v. 0)) h, λ before. ap (λ (v : Valued). valueAfter v before) h);
-      bytes = λ code have s h. ap (codeOf (λ n. n)) h;
-      no-bytes = λ code have s h. ap (codeOf (λ n. n)) h;
-      form = λ have s h. ap (codeOf (λ form. form .1)) h;
-      no-form = λ have s h. ap (codeOf (λ form. form .1)) h;
+      bytes = λ code room s h. ap (codeOf (λ n. n)) h;
+      no-bytes = λ code room s h. ap (codeOf (λ n. n)) h;
+      form = λ room s h. ap (codeOf (λ form. form .1)) h;
+      no-form = λ room s h. ap (codeOf (λ form. form .1)) h;
     }

@@ -98,26 +98,26 @@ module _ {s x : List ℕ} {k : ℕ} {w : Worth} (a : Accepts s k) (m : Means s w
   measure-given e l = measure-is ∙ rw (e, le-leb _ 65536 l)
 
   -- settling, in the order of the reasons
-  module _ (have : ℕ) where
-    pub settle-large : TooLarge w → settleAt s have ≡ withheld 45 none
+  module _ (room : ℕ) where
+    pub settle-large : TooLarge w → settleAt s room ≡ withheld 45 none
     unfolding settleAt
     settle-large t = rw (measure-fault 45 (large-fault w t) (omega arith))
 
-    pub settle-far : PowerTooFar w → settleAt s have ≡ withheld 46 none
+    pub settle-far : PowerTooFar w → settleAt s room ≡ withheld 46 none
     unfolding settleAt
     settle-far t = rw (measure-fault 46 (far-fault w t) (omega arith))
 
-    pub settle-long : faultOf w ≡ 0 → TooLong w x → settleAt s have ≡ withheld 47 none
+    pub settle-long : faultOf w ≡ 0 → TooLong w x → settleAt s room ≡ withheld 47 none
     unfolding settleAt
     settle-long e l = rw (measure-long e l)
 
-    pub settle-small : faultOf w ≡ 0 → length (formOf w x) ≤ 65536 → TooSmall w x have → settleAt s have ≡ withheld 48 none
+    pub settle-small : faultOf w ≡ 0 → length (formOf w x) ≤ 65536 → TooSmall w x room → settleAt s room ≡ withheld 48 none
     unfolding settleAt
-    settle-small e l h = rw (measure-given e l, lt-leb _ have h)
+    settle-small e l h = rw (measure-given e l, lt-leb _ room h)
 
-    pub settle-given : faultOf w ≡ 0 → length (formOf w x) ≤ 65536 → length (formOf w x) ≤ have → settleAt s have ≡ formed k (length (formOf w x))
+    pub settle-given : faultOf w ≡ 0 → length (formOf w x) ≤ 65536 → length (formOf w x) ≤ room → settleAt s room ≡ formed k (length (formOf w x))
     unfolding settleAt
-    settle-given e l h = rw (measure-given e l, le-leb _ have h)
+    settle-given e l h = rw (measure-given e l, le-leb _ room h)
 
   -- else the form is given
   pub given-form : (buf : List ℕ) → faultOf w ≡ 0 → length (formOf w x) ≤ 65536 → length (formOf w x) ≤ length buf → Given s buf k (formOf w x)
@@ -125,27 +125,27 @@ module _ {s x : List ℕ} {k : ℕ} {w : Worth} (a : Accepts s k) (m : Means s w
   given-form buf e l h = let r = settle-given (length buf) e l h in record { answer = r; bytes = rw (r, form-is) }
 
 -- one of the four reasons holds, or none
-pub by-reason : {P : Type 0} (w : Worth) (x : List ℕ) (have : ℕ) → (TooLarge w → P) → (PowerTooFar w → P) → (faultOf w ≡ 0 → TooLong w x → P)
-    → (faultOf w ≡ 0 → length (formOf w x) ≤ 65536 → TooSmall w x have → P)
-    → (faultOf w ≡ 0 → length (formOf w x) ≤ 65536 → length (formOf w x) ≤ have → P) → P
-by-reason w x have f g long small fits =
+pub by-reason : {P : Type 0} (w : Worth) (x : List ℕ) (room : ℕ) → (TooLarge w → P) → (PowerTooFar w → P) → (faultOf w ≡ 0 → TooLong w x → P)
+    → (faultOf w ≡ 0 → length (formOf w x) ≤ 65536 → TooSmall w x room → P)
+    → (faultOf w ≡ 0 → length (formOf w x) ≤ 65536 → length (formOf w x) ≤ room → P) → P
+by-reason w x room f g long small fits =
     by-fault w f g λ a b.
     let e = no-fault w a b in
     by-lt 65536 (length (formOf w x)) (long e) λ l.
-    by-lt have (length (formOf w x)) (small e l) (fits e l)
+    by-lt room (length (formOf w x)) (small e l) (fits e l)
 
 -- ---- a form that is given
 
 -- by the measure, and it fits
-pub given-measure : (s : List ℕ) {k have n : ℕ} → settleAt s have ≡ formed k n → (measureAt s ≡ formed k n) × (n ≤ have)
+pub given-measure : (s : List ℕ) {k room n : ℕ} → settleAt s room ≡ formed k n → (measureAt s ≡ formed k n) × (n ≤ room)
 unfolding settleAt
-given-measure s {k} {have} {n} = go (measureAt s)
+given-measure s {k} {room} {n} = go (measureAt s)
   where
-    go : (r : Settle) → fitted have r ≡ formed k n → (r ≡ formed k n) × (n ≤ have)
+    go : (r : Settle) → fitted room r ≡ formed k n → (r ≡ formed k n) × (n ≤ room)
     go (withheld i p) = λ h. absurd (let z : _≡_ {A = ℕ} 0 1 = cc in omega arith)
     go (given (j, i)) =
-        cond-in (λ (r : Settle). r ≡ formed k n → (formed j i ≡ formed k n) × (n ≤ have)) (leb i have)
-        (λ e h. (h, omega (arith, same-form h .1, leb-true i have e)))
+        cond-in (λ (r : Settle). r ≡ formed k n → (formed j i ≡ formed k n) × (n ≤ room)) (leb i room)
+        (λ e h. (h, omega (arith, same-form h .1, leb-true i room e)))
         (λ e h. absurd (let z : _≡_ {A = ℕ} 0 1 = cc in omega arith))
 
 -- the worth then has no fault, and the form is not too long

@@ -35,7 +35,7 @@ use Rattle.bare_form.specs.Worths.{worthOf}
 use Rattle.demands.specs.Demand1.{Readable}
 use Rattle.demands.specs.Demand2.{Gives, GivesInteger, GivesBytes}
 use Rattle.demands.proofs.DecodeCall.{decode-answers}
-use Rattle.demands.proofs.Demand2.{demand-2-rust}
+use Rattle.demands.proofs.Demand2.{demand-2-transcribed}
 use Rattle.demands.proofs.Integers.{base-most, number-is}
 use Rattle.demands.proofs.Reference.{demand-2-reference}
 
@@ -131,4 +131,4 @@ start-boundary s e (decoded r n) b = b .0
 
 pub suffix-utf8 : (s x : List ℕ) {k e : ℕ} {vs : Values} {w : Worth} → readAt 0 s ≡ accepted k e vs → Means s w x → Utf8 x
 suffix-utf8 s x {k} {e} {vs} h m =
-    subst Utf8 (worth-is s x h m .1) (boundary-drop s e (start-boundary s e vs (demand-2-rust .readings s 0 k e vs h .boundaries)))
+    subst Utf8 (worth-is s x h m .1) (boundary-drop s e (start-boundary s e vs (demand-2-transcribed .readings s 0 k e vs h .boundaries)))

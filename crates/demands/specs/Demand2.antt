@@ -3,9 +3,9 @@
 -- Tokens of The Rust Reference, with the one departure that 01 names, and what they are worth matches one from its chapter Literal expressions,
 -- before any suffix is judged or number rounded."
 --
--- Part one, the Rust's answers. The contracts of the calls (they stand in Demand1) say that the calls answer as `readAt`, `valueAt`, `decodeAt`
--- and `bufferAt` do; here, for every such text, these are the definitions that were transcribed from the Rust, file by file. That those
--- definitions say what the Rust does is not proved: `tests/compare` holds the calls to the Rust itself.
+-- Part one, the definitions that were transcribed from the Rust, file by file. The contracts of the calls (they stand in Demand1) say that the calls
+-- return what `readAt`, `valueAt`, `decodeAt` and `bufferAt` say; here, for every such text, that is what the transcribed definitions say. That these
+-- say what the Rust does is not proved: `tests/compare` holds the calls to the Rust itself.
 -- Assumes nothing.
 use Prim.Native.Nat.{ℕ, _+_, _≤_}
 use mathlib.Core.Path.{_≡_}
@@ -19,7 +19,7 @@ use Rattle.escape.specs.declared.Allowed.{Allowed}
 use Rattle.escape.specs.declared.Allowed.the-variants.{Text, Bytes, C}
 use Rattle.integer.specs.Integer.{integerRead}
 use Rattle.integer_value.specs.Value.{bounded}
-use Rattle.integer_value.specs.Value as litrs
+use Rattle.integer_value.specs.Value as transcribed
 use Rattle.float.specs.Float.{floatRead}
 use Rattle.character.specs.Single.{charRead, byteRead}
 use Rattle.string.specs.String.{stringRead}
@@ -36,12 +36,13 @@ use Rattle.grammar.specs.Meaning as worth
 use Rattle.scaling.specs.Scaled.{part}
 use Rattle.demands.specs.Demand1.{Readable, ValueType}
 
--- of one text: what reading, value and decoding answer is the Rust's. A reading holds kind, part positions, values and the start of the suffix;
--- a refusal holds the error kind's number and the span. (Both `from_suffix` take names, not texts: Demand1, SuffixAnswers.)
-pub record AsTheRust (s : List ℕ) : Type 0 where
-  -- litrs's `parse`
+-- of one text: what reading, value and decoding return is what the definitions transcribed from the Rust say. A reading holds kind, part positions,
+-- values and the start of the suffix; a refusal holds the error kind's number and the span. (Both `from_suffix` take names, not texts: Demand1,
+-- SuffixAnswers.)
+pub record AsTranscribed (s : List ℕ) : Type 0 where
+  -- from litrs's `parse`
   pub any : readAt 0 s ≡ anyRead s
-  -- the `parse` of `BoolLit`, `IntegerLit`, `FloatLit`, `CharLit`, `StringLit`, `ByteLit`, `ByteStringLit`, `CStringLit`
+  -- from the `parse` of `BoolLit`, `IntegerLit`, `FloatLit`, `CharLit`, `StringLit`, `ByteLit`, `ByteStringLit`, `CStringLit`
   pub bool : readAt 1 s ≡ boolRead s
   pub integer : readAt 2 s ≡ integerRead s
   pub float : readAt 3 s ≡ floatRead s
@@ -50,14 +51,16 @@ pub record AsTheRust (s : List ℕ) : Type 0 where
   pub byte : readAt 6 s ≡ byteRead s
   pub byte-string : readAt 7 s ≡ stringRead Bytes s
   pub c-string : readAt 8 s ≡ stringRead C s
-  -- `IntegerLit::value` at a type whose largest value is `most`
-  pub value : (code most : ℕ) → ValueType code most → valueAt code s ≡ litrs.integerValue most s
-  -- the `value` of `StringLit`, `ByteStringLit` and `CStringLit`, written into a buffer that has `have` bytes or holds buf
-  pub decoded : (k : Allowed) (have : ℕ) → decodeAt (strings.kindOf k) s have ≡ stringDecoded k s have
+  -- from `IntegerLit::value`, at a type whose largest value is `most`
+  pub value : (code most : ℕ) → ValueType code most → valueAt code s ≡ transcribed.integerValue most s
+  -- from the `value` of `StringLit`, `ByteStringLit` and `CStringLit`, written into a buffer that has `room` bytes or holds buf
+  pub decoded : (k : Allowed) (room : ℕ) → decodeAt (strings.kindOf k) s room ≡ stringDecoded k s room
   pub buffer : (k : Allowed) (buf : List ℕ) → bufferAt (strings.kindOf k) s buf ≡ bufferAfter k s buf
 
 -- what holds of every accepted reading by an entry
 pub record Accepted (s : List ℕ) (code k e : ℕ) (vs : Values) : Type 0 where
+  -- its text is UTF-8 of at most 65,536 bytes
+  pub readable : Readable s
   -- its kind is one of 1 to 8, and the entry's own where the entry is not 0
   pub kind : (1 ≤ k) × (k ≤ 8)
   pub entry : 1 ≤ code → k ≡ code
@@ -68,8 +71,8 @@ pub record Accepted (s : List ℕ) (code k e : ℕ) (vs : Values) : Type 0 where
   pub boundaries : OnBoundaries s (offsets e vs)
   pub rising : Rising (offsets e vs)
 
-pub record Demand2Rust : Type 0 where
-  pub answers : (s : List ℕ) → Readable s → AsTheRust s
+pub record Demand2Transcribed : Type 0 where
+  pub answers : (s : List ℕ) → Readable s → AsTranscribed s
   pub readings : (s : List ℕ) (code k e : ℕ) (vs : Values) → readAt code s ≡ accepted k e vs → Accepted s code k e vs
 
 -- Part two, the Reference's. `Means s w x` (crate grammar) says that by the two chapters the text s has the worth w and the suffix x.
@@ -88,7 +91,7 @@ pub record GivesInteger (s : List ℕ) (vs : Values) (n : ℕ) : Type 0 where
   pub number : numberIn base (part start end s) ≡ n
   pub given : (code most : ℕ) → ValueType code most → valueAt code s ≡ bounded most n
 
--- a float's reading: the digits up to the first end, those behind a period up to the second, and the exponent behind an `e` up to the third
+-- a float's reading: the digits up to the first end, those after a period up to the second, and the exponent after an `e` up to the third
 pub record GivesFloat (s : List ℕ) (vs : Values) (d : Decimal) : Type 0 where
   pub whole : ℕ
   pub fraction : ℕ
@@ -125,5 +128,5 @@ pub record Demand2Reference : Type 0 where
   pub unambiguous : (s x y : List ℕ) (v w : Worth) → Means s v x → Means s w y → (v ≡ w) × (x ≡ y)
 
 pub record Demand2 : Type 0 where
-  pub rust : Demand2Rust
+  pub transcribed : Demand2Transcribed
   pub reference : Demand2Reference
