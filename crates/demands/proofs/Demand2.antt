@@ -9,7 +9,7 @@ use Rattle.literal.specs.Readings.{entryRead, readAt}
 use Rattle.literal.proofs.Inside.{entry-inside}
 use Rattle.literal.proofs.Answers.{read-own, read-passed, entry-accepted}
 use Rattle.demands.specs.Demand1.{Readable}
-use Rattle.demands.specs.Demand2.{AsTranscribed, Accepted, Demand2Transcribed}
+use Rattle.demands.specs.Demand2.{AsTranscribed, SoundReading, Demand2Transcribed}
 use Rattle.demands.proofs.ValueCall.{fine-value}
 use Rattle.demands.proofs.DecodeCall.{fine-decode, fine-buffer}
 
@@ -34,7 +34,7 @@ answers s f =
     entry : (code : ℕ) → code ≤ 8 → readAt code s ≡ entryRead code s
     entry code c = read-own code s c (f .short) (f .utf8)
 
-readings : (s : List ℕ) (code k e : ℕ) (vs : Values) → readAt code s ≡ accepted k e vs → Accepted s code k e vs
+readings : (s : List ℕ) (code k e : ℕ) (vs : Values) → readAt code s ≡ accepted k e vs → SoundReading s code k e vs
 unfolding entryRead
 readings s code k e vs h =
     let p = read-passed code s h in

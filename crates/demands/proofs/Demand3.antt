@@ -17,7 +17,7 @@ use Rattle.form.proofs.Fit.{settledWorth}
 use Rattle.form.proofs.Again.{again, settled-same}
 use Rattle.form.proofs.Same.{same-form}
 use Rattle.form.proofs.NoLineFeed.{no-lf}
-use Rattle.settle.specs.Settled.{withheld, measureAt, settleAt}
+use Rattle.settle.specs.Settled.{refusal, measureAt, settleAt}
 use Rattle.demands.specs.Demand1.{Readable}
 use Rattle.demands.specs.Demand3.{Accepts, Given, Withheld, TooLarge, PowerTooFar, TooLong, TooSmall, Demand3, InOrder, FormLaws}
 use Rattle.demands.proofs.Classes.{all-to}
@@ -61,7 +61,7 @@ module _ {s x : List ℕ} {k : ℕ} {w : Worth} (a : Accepts s k) (m : Means s w
   form-accepts : length (formOf w x) ≤ 65536 → Accepts (formOf w x) k
   form-accepts l =
       let f : Readable (formOf w x) = record { short = l; utf8 = form-utf8 w x (worth-fit s x (a .2) m) (suffix-utf8 s x (a .2) m) } in
-      let r = demand-2-reference .accepts 0 (formOf w x) (omega arith) f .1 (settledWorth w, x, form-means, inl refl) in
+      let r = demand-2-reference .accepted-exactly 0 (formOf w x) (omega arith) f .1 (settledWorth w, x, form-means, inl refl) in
       let e = demand-2-reference .worth 0 (r .0) (r .1) (formOf w x) x (r .2) (settledWorth w) (r .3) form-means .0 in
       let q : r .0 ≡ k = e ∙ sym (same-kind (settled-same w)) ∙ sym (kind-is a m) in
       (r .1, r .2, rw q at (r .3))
@@ -128,13 +128,13 @@ demand-3 =
       accepted = has-meaning;
       same = sames;
       read-again = agains;
-      given = not-withheld;
+      given-as-defined = not-withheld;
       withheld-exactly = λ s x k room w a m. (withheld-reason s x k room w a m, reason-withheld s x k room w a m);
     }
 
 -- ---- the order of the reasons
 
-measure-withheld : (s : List ℕ) (n : ℕ) (p : Place) → measureAt s ≡ withheld n p → (room : ℕ) → settleAt s room ≡ withheld n p
+measure-withheld : (s : List ℕ) (n : ℕ) (p : Place) → measureAt s ≡ refusal n p → (room : ℕ) → settleAt s room ≡ refusal n p
 unfolding settleAt
 measure-withheld s n p h room = rw h
 

@@ -37,7 +37,7 @@ use Rattle.form.specs.Reduced.{zeros, strip, reduce}
 use Rattle.form.specs.Escapes.{letterFor, asciiForm, byteForm}
 use Rattle.form.specs.Form.{integerForm, reducedForm, formOf}
 use Rattle.scaling.specs.Scaled.{floatAt}
-use Rattle.settle.specs.Settled.{formed, measured, measureAt, settleAt, formAt, bufferAt}
+use Rattle.settle.specs.Settled.{formed, measured, measureAt, settleAt, formAt, settleBuffer}
 use Rattle.demands.specs.Demand3.{Given}
 use Rattle.demands.specs.Marked.{MarkedReadings, MarkedForms, Marked}
 
@@ -61,7 +61,7 @@ million =
 
 -- by the measure and the form
 gives : {s f : List ℕ} {k : ℕ} → measureAt s ≡ formed k (length f) → formAt s ≡ f → (buf : List ℕ) → length f ≤ length buf → Given s buf k f
-unfolding settleAt bufferAt
+unfolding settleAt settleBuffer
 gives {f = f} m e buf l =
     let h = le-leb (length f) (length buf) l in
     record { answer = rw (m, h); bytes = rw (m, h, e) }

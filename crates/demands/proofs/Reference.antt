@@ -104,7 +104,7 @@ same-worth code k e s x vs w h m =
 pub demand-2-reference : Demand2Reference
 demand-2-reference =
     record {
-      accepts = λ code s c f. ((λ (k, e, vs, h). accepted-means code s f h), (λ (w, x, m, t). means-accepted code s f m t));
+      accepted-exactly = λ code s c f. ((λ (k, e, vs, h). accepted-means code s f h), (λ (w, x, m, t). means-accepted code s f m t));
       worth = same-worth;
       unambiguous = unambiguous;
     }

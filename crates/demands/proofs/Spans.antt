@@ -8,7 +8,7 @@ use native.Mathlib.Omega.{arith}
 use lib.Dec.{leb}
 use lib.ListN.{length, drop}
 use Rattle.err.specs.Outcome.{Place, none, Outcome, refused, accepted}
-use Rattle.err.specs.Answer.{Answer, given, withheld}
+use Rattle.err.specs.Answer.{Answer, returned, refusal}
 use Rattle.scan.proofs.Cases.{cond-in, cond-eq}
 use Rattle.types.specs.Types.{integerCoded}
 use Rattle.types.specs.declared.Largest.{Largest}
@@ -16,9 +16,9 @@ use Rattle.types.specs.declared.Largest.the-variants.{Value, NoValues}
 use Rattle.escape.specs.declared.Allowed.{Allowed}
 use Rattle.escape.specs.declared.Allowed.the-variants.{Text, Bytes, C}
 use Rattle.integer.specs.Integer.{baseAt, mainPart, integerRead}
-use Rattle.integer_value.specs.Value.{Valued, number, bounded, integerValue}
+use Rattle.integer_value.specs.Value.{Valued, number, bounded, integerLitValue}
 use Rattle.integer_value.specs.Value as valued
-use Rattle.string.specs.String.{kindOf, stringRead, stringValue}
+use Rattle.string.specs.String.{stringKind, stringRead, stringValue}
 use Rattle.string.specs.Decode.{Decode, ofReading, stringDecoded}
 use Rattle.grammar.specs.Meaning.{Worth}
 use Rattle.grammar.specs.Meaning as worth
@@ -32,15 +32,15 @@ use Rattle.literal.specs.Decodes.{checkedDecode, kindCoded, decodeBy, decodeAt}
 use Rattle.literal.specs.declared.KindFound.{KindFound}
 use Rattle.literal.proofs.Answers.{read-own}
 use Rattle.bare_form.specs.Worths.{worthOf}
-use Rattle.settle.specs.Settled.{Settle, measured, measureOf, measureAt, fitted, settleAt}
+use Rattle.settle.specs.Settled.{FormAnswer, measured, measureOf, measureAt, fitted, settleAt}
 use Rattle.demands.specs.Demand1.{Numbered, Answered, SpanBy, SpanAnswers}
 use Rattle.demands.proofs.ReadCall.{read-answers}
 
 -- ---- what a call returns has its span by reading with the code
 
 abbrev Spanned : {A : Type 0} → ℕ → List ℕ → Answer A → Type 0
-Spanned code s (given a) = Unit {0}
-Spanned code s (withheld n p) = SpanBy code s n p
+Spanned code s (returned a) = Unit {0}
+Spanned code s (refusal n p) = SpanBy code s n p
 
 module _ (code : ℕ) (s : List ℕ) where
   -- a number that litrs has not
@@ -72,8 +72,8 @@ module _ (code : ℕ) (s : List ℕ) where
 
 -- ---- the value call
 
-value-spanned : (most : ℕ) (s : List ℕ) → textFault s ≡ 0 → Spanned 2 s (integerValue most s)
-unfolding integerValue entryRead
+value-spanned : (most : ℕ) (s : List ℕ) → textFault s ≡ 0 → Spanned 2 s (integerLitValue most s)
+unfolding integerLitValue entryRead
 value-spanned most s z = go (integerRead s) refl
   where
     n : ℕ
@@ -93,26 +93,26 @@ value-at code s = go (largestIn (integerCoded code))
 
 -- ---- decoding
 
-string-entry : (k : Allowed) (s : List ℕ) → (kindOf k ≤ 8) × (entryRead (kindOf k) s ≡ stringRead k s)
+string-entry : (k : Allowed) (s : List ℕ) → (stringKind k ≤ 8) × (entryRead (stringKind k) s ≡ stringRead k s)
 unfolding entryRead
 string-entry Text s = (omega arith, refl)
 string-entry Bytes s = (omega arith, refl)
 string-entry C s = (omega arith, refl)
 
-string-spanned : (k : Allowed) (s : List ℕ) (room : ℕ) → textFault s ≡ 0 → Spanned (kindOf k) s (stringDecoded k s room)
+string-spanned : (k : Allowed) (s : List ℕ) (room : ℕ) → textFault s ≡ 0 → Spanned (stringKind k) s (stringDecoded k s room)
 unfolding stringDecoded
 string-spanned k s room z = go (stringRead k s) refl
   where
     v : List ℕ
     v = stringValue k s
 
-    go : (o : Outcome) → stringRead k s ≡ o → Spanned (kindOf k) s (ofReading o v room)
-    go (refused m p) h = let e = string-entry k s in own (kindOf k) s (e .0) z (e .1 ∙ h)
-    go (accepted kind e vs) h = cond-in (Spanned {A = ℕ} (kindOf k) s) (leb (length v) room) (λ t. tt) (λ t. added (kindOf k) s (omega arith))
+    go : (o : Outcome) → stringRead k s ≡ o → Spanned (stringKind k) s (ofReading o v room)
+    go (refused m p) h = let e = string-entry k s in own (stringKind k) s (e .0) z (e .1 ∙ h)
+    go (accepted kind e vs) h = cond-in (Spanned {A = ℕ} (stringKind k) s) (leb (length v) room) (λ t. tt) (λ t. added (stringKind k) s (omega arith))
 
-checked-spanned : (k : Allowed) (s : List ℕ) (room : ℕ) → Spanned (kindOf k) s (checkedDecode k s room)
+checked-spanned : (k : Allowed) (s : List ℕ) (room : ℕ) → Spanned (stringKind k) s (checkedDecode k s room)
 unfolding checkedDecode
-checked-spanned k s room = cond-eq (Spanned {A = ℕ} (kindOf k) s) (textFault s) 0 (string-spanned k s room) (unread (kindOf k) s)
+checked-spanned k s room = cond-eq (Spanned {A = ℕ} (stringKind k) s) (textFault s) 0 (string-spanned k s room) (unread (stringKind k) s)
 
 decode-at : (code : ℕ) (s : List ℕ) (room : ℕ) → Spanned code s (decodeAt code s room)
 unfolding decodeAt kindCoded
@@ -124,7 +124,7 @@ decode-at code s room =
     P : KindFound → Type 0
     P f = Spanned code s (decodeBy f s room)
 
-    of : (k : Allowed) → code ≡ kindOf k → Spanned code s (checkedDecode k s room)
+    of : (k : Allowed) → code ≡ stringKind k → Spanned code s (checkedDecode k s room)
     of k e = subst (λ (c : ℕ). Spanned c s (checkedDecode k s room)) (sym e) (checked-spanned k s room)
 
 -- ---- settling
@@ -149,7 +149,7 @@ fault-most = go
 measured-spanned : (s : List ℕ) (k : ℕ) (w : Worth) (x : List ℕ) → Spanned 0 s (measured k w x)
 unfolding measured
 measured-spanned s k w x =
-    let P : Settle → Type 0 = Spanned 0 s in
+    let P : FormAnswer → Type 0 = Spanned 0 s in
     cond-eq P (faultOf w) 0
     (λ z. cond-in P (leb (length (formOf w x)) 65536) (λ t. tt) (λ t. added 0 s (omega arith)))
     (λ z. added 0 s (fault-most w z))
@@ -166,9 +166,9 @@ settle-at : (s : List ℕ) (room : ℕ) → Spanned 0 s (settleAt s room)
 unfolding settleAt
 settle-at s room = go (measureAt s) (measure-at s)
   where
-    go : (r : Settle) → Spanned 0 s r → Spanned 0 s (fitted room r)
-    go (given (k, n)) h = cond-in (Spanned {A = ℕ × ℕ} 0 s) (leb n room) (λ t. tt) (λ t. added 0 s (omega arith))
-    go (withheld n p) h = h
+    go : (r : FormAnswer) → Spanned 0 s r → Spanned 0 s (fitted room r)
+    go (returned (k, n)) h = cond-in (Spanned {A = ℕ × ℕ} 0 s) (leb n room) (λ t. tt) (λ t. added 0 s (omega arith))
+    go (refusal n p) h = h
 
 -- ---- all calls
 

@@ -17,8 +17,7 @@ use Rattle.integer.specs.Integer.{integerRead}
 use Rattle.integer.specs.Parts.{Tiled}
 use Rattle.integer.proofs.Parts.{sound}
 use Rattle.integer_value.specs.Value.{number}
-use Rattle.string.specs.String.{stringRead, stringValue}
-use Rattle.string.specs.String as strings
+use Rattle.string.specs.String.{stringKind, stringRead, stringValue}
 use Rattle.string.specs.Decode.{written}
 use Rattle.string.proofs.Values.{value-utf8}
 use Rattle.literal.specs.Decodes.{decodeAt}
@@ -72,13 +71,13 @@ over-unique u v buf e h =
 
 -- decoding gives one value
 decoded-value : (k : Allowed) (s v : List ℕ) {kind e : ℕ} {vs : Values} → Readable s → stringRead k s ≡ accepted kind e vs
-    → GivesBytes (strings.kindOf k) s vs v → stringValue k s ≡ v
+    → GivesBytes (stringKind k) s vs v → stringValue k s ≡ v
 decoded-value k s v f h g =
     let w = stringValue k s in
     let buf = v ++ w in
     let l = length-append v w in
-    let a : decodeAt (strings.kindOf k) s (length buf) ≡ written (length v) = g .count buf (omega arith) in
-    let b : decodeAt (strings.kindOf k) s (length buf) ≡ written (length w) = decode-answers .decoded k (length buf) s f h (omega arith) in
+    let a : decodeAt (stringKind k) s (length buf) ≡ written (length v) = g .count buf (omega arith) in
+    let b : decodeAt (stringKind k) s (length buf) ≡ written (length w) = decode-answers .decoded k (length buf) s f h (omega arith) in
     let n : length w ≡ length v = cc in
     over-unique w v v n (sym (decode-answers .filled k s v (g .count v (omega arith))) ∙ g .bytes v (omega arith))
 

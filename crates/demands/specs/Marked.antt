@@ -8,7 +8,7 @@ use lib.ListN.{length}
 use Rattle.err.specs.Outcome.{refused, none, between}
 use Rattle.grammar.specs.Notation.{bytes}
 use Rattle.literal.specs.Readings.{readAt}
-use Rattle.settle.specs.Settled.{withheld, settleAt}
+use Rattle.settle.specs.Settled.{refusal, settleAt}
 use Rattle.demands.specs.Demand3.{Given}
 
 pub record MarkedReadings : Type 0 where
@@ -29,7 +29,7 @@ pub record MarkedForms : Type 0 where
   pub zero-b : Forms "00b1" "00b1" 2
   pub reduced : Forms "1.50e1" "15e0" 3
   pub zero-float : Forms "0e1000001" "0e0" 3
-  pub too-far : (room : ℕ) → settleAt (bytes "10e1000000") room ≡ withheld 46 none
+  pub too-far : (room : ℕ) → settleAt (bytes "10e1000000") room ≡ refusal 46 none
   pub just-near : Forms "0.1e1000001" "1e1000000" 3
   pub c-string : Forms "c\"é\"" "c\"\\xc3\\xa9\"" 8
   pub hex : Forms "0x_1F" "31" 2

@@ -21,7 +21,7 @@ ghost use Rattle.integer_value.specs.Value.{valuedOf};
 ghost use Rattle.err.specs.Reading.{outcomeOf};
 ghost use Rattle.string.specs.Decode.{decodedOf};
 ghost use Rattle.literal.specs.Readings.{quoteIn, stringKindIn, entryRead, readAt};
-ghost use Rattle.literal.specs.Decodes.{kindCoded, stringIn, refusedDecoding, decodeAt, bufferAt};
+ghost use Rattle.literal.specs.Decodes.{kindCoded, stringIn, refusedDecoding, decodeAt, decodeBuffer};
 ghost use Rattle.literal.specs.Values.{refusedValue, valueAt};
 ghost use Rattle.literal.specs.Suffixes.{integerFromSuffix, floatFromSuffix};
 
@@ -170,7 +170,7 @@ fn refused_decoding(found: Quoted) -> Decoded
 // The decoded bytes of a literal by entry code 5, 7 or 8, written to the front of out.
 pub fn decode(code: u64, text: &[u8], out: &mut [u8]) -> Decoded
     ensures { λ r. ⌜ decodedOf r ≡ decodeAt code (now (text .entry)) (length (now (out .entry))) ⌝ }
-    ensures { λ r. ⌜ now (out .exit) ≡ bufferAt code (now (text .entry)) (now (out .entry)) ⌝ }
+    ensures { λ r. ⌜ now (out .exit) ≡ decodeBuffer code (now (text .entry)) (now (out .entry)) ⌝ }
     ensures { λ r. ⌜ now (text .exit) ≡ now (text .entry) ⌝ }
 {
     let found = kind_from_code(code);

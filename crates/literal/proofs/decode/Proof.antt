@@ -3,7 +3,7 @@
 use mathlib.Core.Path.{_≡_, refl, sym, ap, _∙_}
 use native.Mathlib.Omega.{arith}
 use Rattle.body.specs.declared.Quoted.{Quoted}
-use Rattle.literal.specs.Decodes.{kindCoded, refusedDecoding, decodeAt, bufferAt}
+use Rattle.literal.specs.Decodes.{kindCoded, refusedDecoding, decodeAt, decodeBuffer}
 use Rattle.literal.specs.Readings.{readAt}
 use Rattle.literal.specs.declared.KindFound.the-variants as found
 use Rattle.literal.proofs.Calls.{held, string-held, decode-read, buffer-read, string-short, string-is, string-decoded, string-buffer}
@@ -21,7 +21,7 @@ enum-told : tie.Need-enum-told
 enum-told c = search needs
 
 returns : tie.Need-returns
-unfolding decodeAt bufferAt
+unfolding decodeAt decodeBuffer
 returns c = let z = c .before .before .kind-from-code .ensures in
     (rw (← z, c .enum-told .given .1), (rw (← z, c .enum-told .given .1), refl))
 
