@@ -15,7 +15,7 @@ use Rattle.form.specs.Form.{faultOf}
 use Rattle.bare_form.specs.Worths.{worthOf}
 use Rattle.input.specs.Checks.{textFault}
 use Rattle.string.specs.String.{stringRead, stringValue}
-use Rattle.string.specs.Decode.{Decode, written, withheld, ofReading, stringDecoded}
+use Rattle.string.specs.Decode.{Decode, written, refusal, ofReading, stringDecoded}
 use Rattle.literal.specs.Readings.{readAt}
 use Rattle.literal.specs.Decodes.{checkedDecode, kindCoded, decodeBy, decodeAt}
 use Rattle.literal.specs.declared.KindFound.{KindFound}
@@ -25,7 +25,7 @@ use Rattle.settle.proofs.Forms.{no-form, same-form}
 
 -- ---- decoding
 
-no-written {ℓ} : {A : Type ℓ} {n m : ℕ} {p : Place} → withheld m p ≡ written n → A
+no-written {ℓ} : {A : Type ℓ} {n m : ℕ} {p : Place} → refusal m p ≡ written n → A
 no-written e = let z : _≡_ {A = ℕ} 0 1 = cc in absurd (omega arith)
 
 pub decoded-fits : (code : ℕ) (s : List ℕ) (have : ℕ) {n : ℕ} → decodeAt code s have ≡ written n → n ≤ have
@@ -46,7 +46,7 @@ decoded-fits code s have {n} = by-kind (kindCoded code)
 -- ---- settling
 
 -- a form that was written has the length that is told, and fits
-abbrev Told : ℕ → List ℕ → settled.Settle → ℕ → ℕ → Type 0
+abbrev Told : ℕ → List ℕ → settled.FormAnswer → ℕ → ℕ → Type 0
 Told have form a k n = a ≡ settled.formed k n → (n ≤ have) × (n ≡ length form)
 
 settled-told : (s : List ℕ) (have k n : ℕ) → Told have (settled.formAt s) (settled.settleAt s have) k n
@@ -64,16 +64,16 @@ settled-told s have k n = by-reading (readAt 0 s)
         f : List ℕ
         f = settled.formBy s (accepted kind e vs)
 
-        Q : settled.Settle → Type 0
+        Q : settled.FormAnswer → Type 0
         Q a = Told have f a k n
 
-        P : settled.Settle → Type 0
+        P : settled.FormAnswer → Type 0
         P a = Q (settled.fitted have a)
 
 pub settled-fits : (s : List ℕ) (have : ℕ) {k n : ℕ} → settled.settleAt s have ≡ settled.formed k n → n ≤ have
 settled-fits s have {k} {n} e = settled-told s have k n e .0
 
 -- the form is what was written
-pub form-written : (s buf : List ℕ) {k n : ℕ} → settled.settleAt s (length buf) ≡ settled.formed k n → take n (settled.bufferAt s buf) ≡ settled.formAt s
-unfolding settled.bufferAt over
+pub form-written : (s buf : List ℕ) {k n : ℕ} → settled.settleAt s (length buf) ≡ settled.formed k n → take n (settled.settleBuffer s buf) ≡ settled.formAt s
+unfolding settled.settleBuffer over
 form-written s buf {k} {n} e = rw e (take-at (settled.formAt s) (drop (length (settled.formAt s)) buf) n (sym (settled-told s (length buf) k n e .1)))

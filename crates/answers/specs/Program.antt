@@ -3,12 +3,12 @@
 use Prim.Native.Nat.{ℕ}
 use mathlib.Core.List.{List, [], _∷_, _++_}
 use Rattle.lines.specs.Lines.{refusalLine, okLine}
-use Rattle.settle.specs.Settled.{Settle, given, withheld, settleAt, formAt}
+use Rattle.settle.specs.Settled.{FormAnswer, returned, refusal, settleAt, formAt}
 
 -- "(kind, form)"; "(number, span, or `- -`)"
-abbrev pub formLine : Settle → List ℕ → List ℕ
-formLine (given (kind, n)) form = okLine kind ++ ((32 ∷ []) ++ form)
-formLine (withheld n p) form = refusalLine n p
+abbrev pub formLine : FormAnswer → List ℕ → List ℕ
+formLine (returned (kind, n)) form = okLine kind ++ ((32 ∷ []) ++ form)
+formLine (refusal n p) form = refusalLine n p
 
 -- of a text, settled into a buffer as long as a form may be
 unfoldable pub programLine : List ℕ → List ℕ

@@ -19,8 +19,8 @@ use Rattle.settle.specs.Settled as settled
 
 -- `ok VALUE`
 abbrev pub valuedLine : value.Valued → List ℕ
-valuedLine (value.given n) = okLine n
-valuedLine (value.withheld n p) = refusalLine n p
+valuedLine (value.returned n) = okLine n
+valuedLine (value.refusal n p) = refusalLine n p
 
 -- the first n bytes of a lent buffer: ` HEX kept`
 unfoldable pub writtenPiece : ℕ → List ℕ → List ℕ
@@ -32,23 +32,23 @@ refusedLine n p buf = refusalLine n p ++ keptPiece buf
 
 -- `ok LENGTH HEX kept`
 abbrev pub decodedLine : decode.Decode → List ℕ → List ℕ
-decodedLine (decode.given n) buf = okLine n ++ writtenPiece n buf
-decodedLine (decode.withheld n p) buf = refusedLine n p buf
+decodedLine (decode.returned n) buf = okLine n ++ writtenPiece n buf
+decodedLine (decode.refusal n p) buf = refusedLine n p buf
 
 -- `ok KIND LENGTH HEX kept`
-abbrev pub settledLine : settled.Settle → List ℕ → List ℕ
-settledLine (settled.given (kind, n)) buf = kindLine kind n ++ writtenPiece n buf
-settledLine (settled.withheld n p) buf = refusedLine n p buf
+abbrev pub settledLine : settled.FormAnswer → List ℕ → List ℕ
+settledLine (settled.returned (kind, n)) buf = kindLine kind n ++ writtenPiece n buf
+settledLine (settled.refusal n p) buf = refusedLine n p buf
 
 -- ---- the table of operations, over a lent buffer that held `buf`
 
 -- `D`
 unfoldable pub decodingLine : ℕ → List ℕ → List ℕ → List ℕ
-decodingLine code text buf = decodedLine (decodes.decodeAt code text (length buf)) (decodes.bufferAt code text buf)
+decodingLine code text buf = decodedLine (decodes.decodeAt code text (length buf)) (decodes.decodeBuffer code text buf)
 
 -- `S`
 unfoldable pub settlingLine : List ℕ → List ℕ → List ℕ
-settlingLine text buf = settledLine (settled.settleAt text (length buf)) (settled.bufferAt text buf)
+settlingLine text buf = settledLine (settled.settleAt text (length buf)) (settled.settleBuffer text buf)
 
 -- "An unknown letter's line is `bad operation`"
 abbrev pub badOperation : List ℕ
@@ -68,8 +68,8 @@ operationLine letter code text buf =
 -- what the buffer holds then: only `D` and `S` write
 unfoldable pub operationBuffer : ℕ → ℕ → List ℕ → List ℕ → List ℕ
 operationBuffer letter code text buf =
-    cond (eqb letter 68) (decodes.bufferAt code text buf)
-    (cond (eqb letter 83) (settled.bufferAt text buf)
+    cond (eqb letter 68) (decodes.decodeBuffer code text buf)
+    (cond (eqb letter 83) (settled.settleBuffer text buf)
     buf)
 
 -- ---- a record, whose lent buffer has `have` bytes

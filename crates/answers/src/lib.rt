@@ -14,7 +14,7 @@ ghost use Rattle.buffer.specs.Buffer.{Wrote};
 ghost use Rattle.lines.specs.Lines.{Added};
 ghost use Rattle.integer_value.specs.Value.{valuedOf};
 ghost use Rattle.literal.specs.Decodes as decodes;
-ghost use Rattle.settle.specs.Settled.{formed, settleAt, bufferAt, formAt};
+ghost use Rattle.settle.specs.Settled.{formed, settleAt, settleBuffer, formAt};
 ghost use Rattle.answers.specs.Records.{valuedLine, writtenPiece, refusedLine, decodingLine, settlingLine, operationLine, operationBuffer, recordLine, recordBuffer};
 ghost use Rattle.answers.specs.Program.{formLine, programLine};
 
@@ -62,7 +62,7 @@ fn add_written(line: &mut [u8], at: usize, out: &[u8], n: usize) -> usize
 fn put_decoding(line: &mut [u8], code: u8, text: &[u8], out: &mut [u8]) -> usize
     requires { ⌜ 128 + 2 * length (now out) ≤ length (now line) ⌝ }
     ensures { λ r. ⌜ Wrote (decodingLine code (now (text .entry)) (now (out .entry))) r (now (line .entry)) (now (line .exit)) × (r ≤ 115 + 2 * length (now (out .entry))) ⌝ }
-    ensures { λ r. ⌜ now (out .exit) ≡ decodes.bufferAt code (now (text .entry)) (now (out .entry)) ⌝ }
+    ensures { λ r. ⌜ now (out .exit) ≡ decodes.decodeBuffer code (now (text .entry)) (now (out .entry)) ⌝ }
 {
     let d = literal::decode(code as u64, text, out);
     match d {
@@ -78,7 +78,7 @@ fn put_decoding(line: &mut [u8], code: u8, text: &[u8], out: &mut [u8]) -> usize
 fn put_settling(line: &mut [u8], text: &[u8], out: &mut [u8]) -> usize
     requires { ⌜ 128 + 2 * length (now out) ≤ length (now line) ⌝ }
     ensures { λ r. ⌜ Wrote (settlingLine (now (text .entry)) (now (out .entry))) r (now (line .entry)) (now (line .exit)) × (r ≤ 115 + 2 * length (now (out .entry))) ⌝ }
-    ensures { λ r. ⌜ now (out .exit) ≡ bufferAt (now (text .entry)) (now (out .entry)) ⌝ }
+    ensures { λ r. ⌜ now (out .exit) ≡ settleBuffer (now (text .entry)) (now (out .entry)) ⌝ }
 {
     let s = settle::settle(text, out);
     match s {
@@ -132,7 +132,7 @@ fn put_formed(line: &mut [u8], kind: u8, out: &[u8], n: usize) -> usize
 fn put_form(line: &mut [u8], text: &[u8], out: &mut [u8]) -> usize
     requires { ⌜ 128 + length (now out) ≤ length (now line) ⌝ }
     ensures { λ r. ⌜ Wrote (formLine (settleAt (now (text .entry)) (length (now (out .entry)))) (formAt (now (text .entry)))) r (now (line .entry)) (now (line .exit)) × (r ≤ 107 + length (now (out .entry))) ⌝ }
-    ensures { λ r. ⌜ now (out .exit) ≡ bufferAt (now (text .entry)) (now (out .entry)) ⌝ }
+    ensures { λ r. ⌜ now (out .exit) ≡ settleBuffer (now (text .entry)) (now (out .entry)) ⌝ }
 {
     let s = settle::settle(text, out);
     match s {
@@ -145,7 +145,7 @@ fn put_form(line: &mut [u8], text: &[u8], out: &mut [u8]) -> usize
 pub fn program_line(line: &mut [u8], text: &[u8], out: &mut [u8]) -> usize
     requires { ⌜ (length (now out) ≡ 65536) × (65664 ≤ length (now line)) ⌝ }
     ensures { λ r. ⌜ Wrote (programLine (now (text .entry))) r (now (line .entry)) (now (line .exit)) ⌝ }
-    ensures { λ r. ⌜ now (out .exit) ≡ bufferAt (now (text .entry)) (now (out .entry)) ⌝ }
+    ensures { λ r. ⌜ now (out .exit) ≡ settleBuffer (now (text .entry)) (now (out .entry)) ⌝ }
 {
     let end = put_form(line, text, out);
     lines::add(line, end, b"\n")

@@ -27,7 +27,7 @@ use Rattle.integer.proofs.Suffixed.{never}
 use Rattle.integer.proofs.Parts.{read-ends}
 use Rattle.float.specs.Float.{floatRead}
 use Rattle.character.proofs.Values.{char-value}
-use Rattle.string.specs.String.{kindOf, stringRead}
+use Rattle.string.specs.String.{stringKind, stringRead}
 use Rattle.literal.specs.Readings.{entryRead, readAt}
 use Rattle.literal.proofs.Answers.{read-passed, entry-accepted}
 use Rattle.literal.proofs.Inside.{entry-inside, start-inside}
@@ -53,7 +53,7 @@ module _ (s : List ℕ) {k e : ℕ} {vs : Values} (is : accepted k e vs ≡ read
 
 -- the three kinds with decoded bytes
 abbrev pub stringIn : Allowed → StringLit → Outcome
-stringIn k lit = accepted (kindOf k) (lit .«start_suffix») (decoded (hashesOf (lit .hashes)) (lit .«value_len»))
+stringIn k lit = accepted (stringKind k) (lit .«start_suffix») (decoded (hashesOf (lit .hashes)) (lit .«value_len»))
 
 -- the text of a bool is its form
 bool-form : (s x : List ℕ) (t : Bool) {k e : ℕ} → boolRead s ≡ accepted k e (truth t) → bareForm (worth.bool t) x ≡ s

@@ -30,7 +30,7 @@ use Rattle.escape.specs.Escape as escape
 use Rattle.escape.specs.Pieces.{Esc}
 use Rattle.escape.specs.declared.Unescaped.{Unescaped}
 use Rattle.escape.proofs.Exact.{Escapes, escape-sound, escaped, first-two}
-use Rattle.single_quote.specs.Quote.{kindOf, offsetOf, allowedIn, unterminated, overlong, empty}
+use Rattle.single_quote.specs.Quote.{quoteKind, offsetOf, allowedIn, unterminated, overlong, empty}
 use Rattle.single_quote.specs.Content.{Quoted, decodedBy, plainAt, special, quoteAt}
 use Rattle.single_quote.specs.declared.Quote.{Quote}
 use Rattle.single_quote.specs.declared.Quote.the-variants.{Char, Byte}
@@ -67,7 +67,7 @@ plain-byte v b (inr h) p = plain-high b (h .1)
 
 abbrev Sound : Quote → List ℕ → Outcome → Type 0
 Sound q s (refused n p) = RefusedIn (length s) n p
-Sound q s (accepted k e vs) = (v : ℕ) × (k ≡ kindOf q) × (vs ≡ value v) × Tiled q s e v
+Sound q s (accepted k e vs) = (v : ℕ) × (k ≡ quoteKind q) × (vs ≡ value v) × Tiled q s e v
 
 -- the refusals of either kind
 kinds-in : (q : Quote) (m : ℕ) → RefusedIn m (unterminated q) none × RefusedIn m (overlong q) none × RefusedIn m (empty q) none
@@ -189,7 +189,7 @@ module _ (q : Quote) (s : List ℕ) {e v : ℕ} (t : Tiled q s e v) where
   tiled-ascii = (closing .0, omega (arith, t .end), rw parts (getD-at before 39 (t .suf) 0 (e - 1) (closing .1)))
 
   -- a reading that has passed the content ends well
-  closed-complete : (n w : ℕ) → n ≡ length (t .content) → w ≡ v → closedAt q s (offsetOf q + n) w ≡ accepted (kindOf q) e (value v)
+  closed-complete : (n w : ℕ) → n ≡ length (t .content) → w ≡ v → closedAt q s (offsetOf q + n) w ≡ accepted (quoteKind q) e (value v)
   unfolding closedAt suffixedAt before
   closed-complete n w is same =
       let at : offsetOf q + n ≡ e - 1 =
@@ -220,7 +220,7 @@ module _ (q : Quote) (s : List ℕ) {e v : ℕ} (t : Tiled q s e v) where
   unfolding firstAt special
   of-escape h = single-first ∙ rw h
 
-  escape-complete : (u : Unescaped) → Esc (allowedIn q) (t .content) u → v ≡ scalarOf u → singleAt q s ≡ accepted (kindOf q) e (value v)
+  escape-complete : (u : Unescaped) → Esc (allowedIn q) (t .content) u → v ≡ scalarOf u → singleAt q s ≡ accepted (quoteKind q) e (value v)
   unfolding escapedAt tail
   escape-complete u x is =
       of-escape (first-is ∙ first-two (39 ∷ t .suf) x .2)
@@ -245,7 +245,7 @@ ascii-complete s {v = v} t h p is =
 
 -- the two kinds differ
 pub no-kind : Char ≡ Byte → ⊥
-no-kind e = let z : _≡_ {A = ℕ} 4 6 = ap kindOf e in omega arith
+no-kind e = let z : _≡_ {A = ℕ} 4 6 = ap quoteKind e in omega arith
 
 pub char-complete : (s : List ℕ) {e v : ℕ} → Tiled Char s e v → charRead s ≡ accepted 4 e (value v)
 unfolding charRead

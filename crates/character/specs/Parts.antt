@@ -16,11 +16,13 @@ use Rattle.single_quote.specs.declared.Quote.the-variants.{Char, Byte}
 use Rattle.character.specs.Single.{scalarOf}
 
 -- `'`, `b'`
+-- 39 is `'`, 98 is `b`
 abbrev pub openingOf : Quote → List ℕ
 openingOf Char = 39 ∷ []
 openingOf Byte = 98 ∷ 39 ∷ []
 
 -- what may stand for itself: no quote, backslash, LF, tab or CR
+-- 39 is `'`, 92 is `\`
 pub record Plain (v : ℕ) : Type 0 where
   pub quote : v ≡ 39 → ⊥
   pub backslash : v ≡ 92 → ⊥
@@ -33,6 +35,7 @@ pub data Content (q : Quote) (content : List ℕ) (v : ℕ) : Type 0 where
   escape : (u : Unescaped) → Esc (allowedIn q) content u → v ≡ scalarOf u → Content q content v
 
 -- a reading with the suffix at e and the value v is that of the parts that make up the text: opening, content, quote, a good suffix
+-- 39 is `'`
 pub record Tiled (q : Quote) (s : List ℕ) (e v : ℕ) : Type 0 where
   pub content : List ℕ
   pub suf : List ℕ

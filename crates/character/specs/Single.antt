@@ -1,4 +1,4 @@
--- What litrs's `CharLit::parse` and `ByteLit::parse` answer (01, Quoted kinds), in their order of tests.
+-- What litrs's `CharLit::parse` and `ByteLit::parse` return (01, Quoted kinds), in their order of tests.
 -- Assumes nothing.
 use Prim.Native.Nat.{ℕ, _+_}
 use mathlib.Core.Bool.{cond}
@@ -15,7 +15,7 @@ use Rattle.escape.specs.Escape.{Escaped, escapeOf}
 use Rattle.escape.specs.Escape as escape
 use Rattle.escape.specs.declared.Unescaped.{Unescaped}
 use Rattle.escape.specs.declared.Unescaped.the-variants as unescaped
-use Rattle.single_quote.specs.Quote.{kindOf, offsetOf, allowedIn, unterminated, overlong, opensBy, startFault}
+use Rattle.single_quote.specs.Quote.{quoteKind, offsetOf, allowedIn, unterminated, overlong, opensBy, startFault}
 use Rattle.single_quote.specs.Content.{Quoted, content, fault, plainAt, special, quoteAt}
 use Rattle.single_quote.specs.declared.Quote.{Quote}
 use Rattle.single_quote.specs.declared.Quote.the-variants.{Char, Byte}
@@ -24,7 +24,7 @@ use Rattle.character.specs.declared.Single.the-variants as single
 
 -- document 01's numbers and values for each case
 abbrev pub singleOf : Quote → Single → Outcome
-singleOf q (single.Value v start) = accepted (kindOf q) start (value v)
+singleOf q (single.Value v start) = accepted (quoteKind q) start (value v)
 singleOf q (single.Refused k p) = refused (numberOf k) (placeOf p)
 
 -- whether an answer is a refusal; serves a contract between functions
@@ -35,10 +35,11 @@ IsRefused (single.Refused k p) = Unit {0}
 -- "In kinds 4 to 8 a suffix fault spans the suffix's first byte."
 unfoldable pub suffixedAt : Quote → List ℕ → ℕ → ℕ → Outcome
 suffixedAt q s start v =
-    cond (eqb (suffixFault (drop start s)) 0) (accepted (kindOf q) start (value v))
+    cond (eqb (suffixFault (drop start s)) 0) (accepted (quoteKind q) start (value v))
     (refused (suffixFault (drop start s)) (between start (start + 1)))
 
 -- after the character: the closing quote; a later one makes it overlong; without one it is not terminated
+-- 39 is `'`
 unfoldable pub closedAt : Quote → List ℕ → ℕ → ℕ → Outcome
 closedAt q s at v =
     cond (eqb (getD s at 0) 39) (suffixedAt q s (at + 1) v)
@@ -67,6 +68,7 @@ unfoldable pub escapedAt : Quote → List ℕ → ℕ → Quoted
 escapedAt q s at = escapedBy at (escapeOf (allowedIn q) (drop at s))
 
 -- by the first byte between the quotes
+-- 39 is `'`, 92 is `\`
 unfoldable pub firstAt : Quote → List ℕ → ℕ → Quoted
 firstAt q s at =
     cond (eqb (getD s at 0) 39) (quoteAt q s at)
@@ -90,12 +92,12 @@ singleAt q s =
     cond (ltb (offsetOf q) (length s)) (closedBy q s (offsetOf q) (firstAt q s (offsetOf q)))
     (refused (unterminated q) none)
 
--- of any text: no bytes are 1, another start is 28
+-- of any text: the empty text is refused with 1, another start with 28
 unfoldable pub charRead : List ℕ → Outcome
 charRead [] = refused 1 none
 charRead (b ∷ s) = cond (opensBy Char (b ∷ s)) (singleAt Char (b ∷ s)) (startFault Char)
 
--- of any text: no bytes are 1, another start is 32
+-- of any text: the empty text is refused with 1, another start with 32
 unfoldable pub byteRead : List ℕ → Outcome
 byteRead [] = refused 1 none
 byteRead (b ∷ s) = cond (opensBy Byte (b ∷ s)) (singleAt Byte (b ∷ s)) (startFault Byte)

@@ -21,6 +21,7 @@ use Rattle.demands.proofs.ReadCall.{read-answers}
 use Rattle.demands.proofs.ValueCall.{value-answers}
 use Rattle.demands.proofs.DecodeCall.{decode-answers}
 use Rattle.demands.proofs.SettleCall.{settle-answers, number-answers}
+use Rattle.demands.proofs.Spans.{span-answers}
 
 -- ---- a name that has a code
 
@@ -70,4 +71,4 @@ suffix-answers : SuffixAnswers
 suffix-answers = record { integer = integer-named; no-integer = unnamed; float = float-named; no-float = no-float-named }
 
 pub demand-1 : Demand1
-demand-1 = record { read = read-answers; value = value-answers; decode = decode-answers; suffixes = suffix-answers; settle = settle-answers; numbers = number-answers }
+demand-1 = record { read = read-answers; value = value-answers; decode = decode-answers; suffixes = suffix-answers; settle = settle-answers; spans = span-answers; numbers = number-answers }

@@ -17,7 +17,7 @@ use Rattle.form.proofs.Fit.{settledWorth}
 use Rattle.form.proofs.Again.{again, settled-same}
 use Rattle.form.proofs.Same.{same-form}
 use Rattle.form.proofs.NoLineFeed.{no-lf}
-use Rattle.settle.specs.Settled.{withheld, measureAt, settleAt}
+use Rattle.settle.specs.Settled.{refusal, measureAt, settleAt}
 use Rattle.demands.specs.Demand1.{Readable}
 use Rattle.demands.specs.Demand3.{Accepts, Given, Withheld, TooLarge, PowerTooFar, TooLong, TooSmall, Demand3, InOrder, FormLaws}
 use Rattle.demands.proofs.Classes.{all-to}
@@ -61,12 +61,18 @@ module _ {s x : List ℕ} {k : ℕ} {w : Worth} (a : Accepts s k) (m : Means s w
   form-accepts : length (formOf w x) ≤ 65536 → Accepts (formOf w x) k
   form-accepts l =
       let f : Readable (formOf w x) = record { short = l; utf8 = form-utf8 w x (worth-fit s x (a .2) m) (suffix-utf8 s x (a .2) m) } in
-      let r = demand-2-reference .accepts 0 (formOf w x) (omega arith) f .1 (settledWorth w, x, form-means, inl refl) in
+      let r = demand-2-reference .accepted-exactly 0 (formOf w x) (omega arith) f .1 (settledWorth w, x, form-means, inl refl) in
       let e = demand-2-reference .worth 0 (r .0) (r .1) (formOf w x) x (r .2) (settledWorth w) (r .3) form-means .0 in
       let q : r .0 ≡ k = e ∙ sym (same-kind (settled-same w)) ∙ sym (kind-is a m) in
       (r .1, r .2, rw q at (r .3))
 
 -- ---- the demand
+
+has-meaning : (s buf f : List ℕ) (k : ℕ) → Given s buf k f → Accepts s k × ((w : Worth) × (x : List ℕ) × Means s w x × (k ≡ kindOf w))
+has-meaning s buf f k g =
+    let a = given-accepts g in
+    let (w, x, m) = accepts-means a in
+    (a, (w, x, m, kind-is a m))
 
 sames : (s t buf buf′ f g x y : List ℕ) (k l : ℕ) (v w : Worth) → Given s buf k f → Given t buf′ l g → Means s v x → Means t w y
     → (f ≡ g) ↔ (SameWorth v w × (x ≡ y))
@@ -88,26 +94,26 @@ agains s buf f x k w g m =
     let l : length (formOf w x) ≤ 65536 = rw (p .is) at (p .short) in
     rw (p .is) (form-accepts a m l, (settledWorth w, form-means a m, settled-same w))
 
-module _ (s x : List ℕ) (k have : ℕ) (w : Worth) (a : Accepts s k) (m : Means s w x) where
+module _ (s x : List ℕ) (k room : ℕ) (w : Worth) (a : Accepts s k) (m : Means s w x) where
   -- one of the reasons
   abbrev Reason : Type 0
-  Reason = TooLarge w ⊎ (PowerTooFar w ⊎ (TooLong w x ⊎ TooSmall w x have))
+  Reason = TooLarge w ⊎ (PowerTooFar w ⊎ (TooLong w x ⊎ TooSmall w x room))
 
-  withheld-reason : Withheld s have → Reason
+  withheld-reason : Withheld s room → Reason
   withheld-reason (n, p, h) =
-      by-reason w x have inl (λ f. inr (inl f)) (λ _ l. inr (inr (inl l))) (λ _ _ l. inr (inr (inr l)))
-      (λ e l r. let g = settle-given a m have e l r in absurd (let z : _≡_ {A = ℕ} 0 1 = cc in omega arith))
+      by-reason w x room inl (λ f. inr (inl f)) (λ _ l. inr (inr (inl l))) (λ _ _ l. inr (inr (inr l)))
+      (λ e l r. let g = settle-given a m room e l r in absurd (let z : _≡_ {A = ℕ} 0 1 = cc in omega arith))
 
   -- the form is withheld, or none of the reasons holds
-  by-answer : {P : Type 0} → (Withheld s have → P) → (faultOf w ≡ 0 → length (formOf w x) ≤ 65536 → length (formOf w x) ≤ have → P) → P
+  by-answer : {P : Type 0} → (Withheld s room → P) → (faultOf w ≡ 0 → length (formOf w x) ≤ 65536 → length (formOf w x) ≤ room → P) → P
   by-answer f =
-      by-reason w x have (λ t. f (45, none, settle-large a m have t)) (λ t. f (46, none, settle-far a m have t))
-      (λ e l. f (47, none, settle-long a m have e l)) (λ e l h. f (48, none, settle-small a m have e l h))
+      by-reason w x room (λ t. f (45, none, settle-large a m room t)) (λ t. f (46, none, settle-far a m room t))
+      (λ e l. f (47, none, settle-long a m room e l)) (λ e l h. f (48, none, settle-small a m room e l h))
 
-  reason-withheld : Reason → Withheld s have
+  reason-withheld : Reason → Withheld s room
   reason-withheld r = by-answer (λ h. h) (λ e l h. absurd (go e l h r))
     where
-      go : faultOf w ≡ 0 → length (formOf w x) ≤ 65536 → length (formOf w x) ≤ have → Reason → ⊥
+      go : faultOf w ≡ 0 → length (formOf w x) ≤ 65536 → length (formOf w x) ≤ room → Reason → ⊥
       go e l h (inl t) = let f = large-fault w t in omega arith
       go e l h (inr (inl t)) = let f = far-fault w t in omega arith
       go e l h (inr (inr (inl t))) = omega arith
@@ -119,25 +125,26 @@ not-withheld s buf x k w a m n = by-answer s x k (length buf) w a m (λ h. absur
 pub demand-3 : Demand3
 demand-3 =
     record {
+      accepted = has-meaning;
       same = sames;
-      again = agains;
-      given = not-withheld;
-      only = λ s x k have w a m. (withheld-reason s x k have w a m, reason-withheld s x k have w a m);
+      read-again = agains;
+      given-as-defined = not-withheld;
+      withheld-exactly = λ s x k room w a m. (withheld-reason s x k room w a m, reason-withheld s x k room w a m);
     }
 
 -- ---- the order of the reasons
 
-measure-withheld : (s : List ℕ) (n : ℕ) (p : Place) → measureAt s ≡ withheld n p → (have : ℕ) → settleAt s have ≡ withheld n p
+measure-withheld : (s : List ℕ) (n : ℕ) (p : Place) → measureAt s ≡ refusal n p → (room : ℕ) → settleAt s room ≡ refusal n p
 unfolding settleAt
-measure-withheld s n p h have = rw h
+measure-withheld s n p h room = rw h
 
 pub in-order : InOrder
 in-order =
     record {
-      too-large = λ s x k have w a m t. settle-large a m have t;
-      too-far = λ s x k have w a m t. settle-far a m have t;
-      too-long = λ s x k have w a m l f t. settle-long a m have (no-fault w l f) t;
-      too-small = λ s x k have w a m l f t h. settle-small a m have (no-fault w l f) (omega arith) h;
+      too-large = λ s x k room w a m t. settle-large a m room t;
+      too-far = λ s x k room w a m t. settle-far a m room t;
+      too-long = λ s x k room w a m l f t. settle-long a m room (no-fault w l f) t;
+      too-small = λ s x k room w a m l f t h. settle-small a m room (no-fault w l f) (omega arith) h;
       measure = λ s buf f k g. given-measure s (g .answer) .0;
       no-measure = measure-withheld;
     }

@@ -266,7 +266,7 @@ gives {base} {pre} {main} {suf} h f =
       values = refl;
       number = rw (add-sub-cancel-left, drop-append-seam, take-append-seam) (sym v);
       radix = sym (radix-is (pre ++ (main ++ suf)) ∙ h .plain);
-      given = λ code largest e.
+      at-each-type = λ code largest e.
           fine-value code largest (pre ++ (main ++ suf)) e f ∙ value-of-parts largest h
           ∙ ap (bounded largest) (number-is base main (base-most (h .prefix)) (h .digits) ∙ sym v);
     }

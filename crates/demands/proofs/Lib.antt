@@ -4,6 +4,7 @@ pub mod ReadCall
 pub mod ValueCall
 pub mod DecodeCall
 pub mod SettleCall
+pub mod Spans
 pub mod Demand1
 pub mod Demand2
 pub mod Found

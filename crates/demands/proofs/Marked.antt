@@ -1,7 +1,11 @@
 -- The marked texts are read and settled so, by computing the definitions.
 -- Assumes nothing.
 use mathlib.Core.Path.{_≡_, refl}
+use mathlib.Core.List.{List}
+use Prim.Native.Nat.{ℕ, _≤_}
 use native.Mathlib.Omega.{arith}
+use borrow.Author.Tests.{le-leb}
+use lib.ListN.{length}
 use Rattle.scan.specs.Sets.{except, only}
 use Rattle.parse.specs.Class.{classOf}
 use Rattle.parse.specs.Sets.{digit, blank, suffixRest, decDigit, startsE}
@@ -33,7 +37,8 @@ use Rattle.form.specs.Reduced.{zeros, strip, reduce}
 use Rattle.form.specs.Escapes.{letterFor, asciiForm, byteForm}
 use Rattle.form.specs.Form.{integerForm, reducedForm, formOf}
 use Rattle.scaling.specs.Scaled.{floatAt}
-use Rattle.settle.specs.Settled.{measured, measureAt, settleAt, formAt}
+use Rattle.settle.specs.Settled.{formed, measured, measureAt, settleAt, formAt, settleBuffer}
+use Rattle.demands.specs.Demand3.{Given}
 use Rattle.demands.specs.Marked.{MarkedReadings, MarkedForms, Marked}
 
 pub marked-readings : MarkedReadings
@@ -54,18 +59,25 @@ million =
       last 1 (omega arith),
     )
 
+-- by the measure and the form
+gives : {s f : List ℕ} {k : ℕ} → measureAt s ≡ formed k (length f) → formAt s ≡ f → (buf : List ℕ) → length f ≤ length buf → Given s buf k f
+unfolding settleAt settleBuffer
+gives {f = f} m e buf l =
+    let h = le-leb (length f) (length buf) l in
+    record { answer = rw (m, h); bytes = rw (m, h, e) }
+
 pub marked-forms : MarkedForms
 unfolding encode lengthFrom decode2 decode3 decode4 chosen3 chosen4 rest2 rest3 rest4 decodeBy decode charsWithin isUtf8 textFault entryRead readAt except only classOf digit blank suffixRest decDigit startsE suffixFault faultFrom suffixStart plainOf stepOf bodyFrom bodyBy suffixed stringOf openingBy stringRead baseAt prefixLen mainLen afterSuffix afterDigits integerOf integerAt integerRead startsFloat numberRead anyBy anyRead byteOrStringRead stringValue number signEnd noDigit notInteger afterNumber afterFraction badFraction afterInteger floatRead floatAt SIGN LOW digitValue numberIn zeros strip reduce letterFor asciiForm byteForm hexDigit hexDigits integerForm reducedForm formOf measured measureAt settleAt formAt
 marked-forms =
     record {
-      zero-x = record { answer = refl; form = refl };
-      zero-b = record { answer = refl; form = refl };
-      reduced = unfold decimal in record { answer = refl; form = refl };
-      zero-float = unfold decimal in record { answer = refl; form = refl };
-      too-far = λ have. refl;
-      just-near = record { answer = rw (last 1 (omega arith), million); form = rw (last 1 (omega arith), million) };
-      c-string = record { answer = refl; form = refl };
-      hex = unfold decimal in record { answer = refl; form = refl };
+      zero-x = gives refl refl;
+      zero-b = gives refl refl;
+      reduced = unfold decimal in gives refl refl;
+      zero-float = unfold decimal in gives refl refl;
+      too-far = λ room. refl;
+      just-near = gives (rw (last 1 (omega arith), million)) (rw (last 1 (omega arith), million));
+      c-string = gives refl refl;
+      hex = unfold decimal in gives refl refl;
     }
 
 pub marked : Marked

@@ -17,7 +17,7 @@ use Rattle.grammar.specs.Meaning as worth
 use Rattle.grammar.proofs.Unambiguous.{unambiguous}
 use Rattle.demands.specs.Demand1.{Readable}
 use Rattle.demands.specs.Demand2.{Takes, Gives, Demand2Reference, Demand2}
-use Rattle.demands.proofs.Demand2.{demand-2-rust}
+use Rattle.demands.proofs.Demand2.{demand-2-transcribed}
 use Rattle.demands.proofs.Found.{Found}
 use Rattle.demands.proofs.Bools.{bool-found, bool-read}
 use Rattle.demands.proofs.Integers.{integer-found, integer-read}
@@ -104,11 +104,11 @@ same-worth code k e s x vs w h m =
 pub demand-2-reference : Demand2Reference
 demand-2-reference =
     record {
-      accepts = λ code s c f. ((λ (k, e, vs, h). accepted-means code s f h), (λ (w, x, m, t). means-accepted code s f m t));
+      accepted-exactly = λ code s c f. ((λ (k, e, vs, h). accepted-means code s f h), (λ (w, x, m, t). means-accepted code s f m t));
       worth = same-worth;
       unambiguous = unambiguous;
     }
 
 -- the whole of demand 2
 pub demand-2 : Demand2
-demand-2 = record { rust = demand-2-rust; reference = demand-2-reference }
+demand-2 = record { transcribed = demand-2-transcribed; reference = demand-2-reference }

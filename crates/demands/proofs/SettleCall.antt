@@ -18,7 +18,7 @@ use Rattle.form.specs.Reduced.{reduce}
 use Rattle.literal.specs.Readings.{readAt}
 use Rattle.bare_form.specs.Worths.{worthOf}
 use Rattle.settle.proofs.Forms.{same-form}
-use Rattle.settle.specs.Settled.{Settle, given, formed, withheld, measured, measureOf, measureAt, fitted, settleAt, formBy, formAt, bufferAt}
+use Rattle.settle.specs.Settled.{FormAnswer, returned, formed, refusal, measured, measureOf, measureAt, fitted, settleAt, formBy, formAt, settleBuffer}
 use Rattle.integer_value.specs.Value.{Valued}
 use Rattle.numbers.specs.Numbers.{readingNumbers}
 use Rattle.desk.specs.Code.{codeOf, valueAfter}
@@ -28,16 +28,16 @@ use Rattle.demands.proofs.ReadCall.{Coded, coded}
 -- ---- the measure
 
 -- what a measure says of a text of m bytes with the form f
-abbrev Measure : ℕ → List ℕ → Settle → Type 0
-Measure m f (given (k, n)) = (1 ≤ k) × (k ≤ 8) × (n ≤ 65536) × (n ≡ length f)
-Measure m f (withheld n p) = SettleAnswered m 0 (withheld n p)
+abbrev Measure : ℕ → List ℕ → FormAnswer → Type 0
+Measure m f (returned (k, n)) = (1 ≤ k) × (k ≤ 8) × (n ≤ 65536) × (n ≡ length f)
+Measure m f (refusal n p) = SettleAnswered m 0 (refusal n p)
 
 -- 45 or 46
-fault-is : (m : ℕ) (w : Worth) → (faultOf w ≡ 0 → ⊥) → SettleAnswered m 0 (withheld (faultOf w) none)
+fault-is : (m : ℕ) (w : Worth) → (faultOf w ≡ 0 → ⊥) → SettleAnswered m 0 (refusal (faultOf w) none)
 fault-is m = go
   where
     P : ℕ → Type 0
-    P f = (f ≡ 0 → ⊥) → SettleAnswered m 0 (withheld f none)
+    P f = (f ≡ 0 → ⊥) → SettleAnswered m 0 (refusal f none)
 
     go : (w : Worth) → P (faultOf w)
     go (worth.integer n) = cond-in P (leb n 18446744073709551615) (λ e z. absurd (z refl)) (λ e z. inr (inr (inr (inl refl)), refl))
@@ -53,7 +53,7 @@ fault-is m = go
 measured-is : (m k : ℕ) (w : Worth) (x : List ℕ) → 1 ≤ k → k ≤ 8 → Measure m (formOf w x) (measured k w x)
 unfolding measured
 measured-is m k w x a b =
-    let P : Settle → Type 0 = Measure m (formOf w x) in
+    let P : FormAnswer → Type 0 = Measure m (formOf w x) in
     cond-eq P (faultOf w) 0
     (λ z. cond-in P (leb (length (formOf w x)) 65536) (λ t. (a, b, leb-true (length (formOf w x)) 65536 t, refl))
     (λ t. inr (inr (inr (inr (inr (inl refl)))), refl)))
@@ -72,42 +72,42 @@ measure-is s = go (readAt 0 s) (coded more 0 s (omega arith))
 
 -- ---- settling
 
-answered : (have : ℕ) (s : List ℕ) → SettleAnswered (length s) have (settleAt s have)
+answered : (room : ℕ) (s : List ℕ) → SettleAnswered (length s) room (settleAt s room)
 unfolding settleAt
-answered have s = go (measureAt s) (measure-is s)
+answered room s = go (measureAt s) (measure-is s)
   where
-    go : (x : Settle) → Measure (length s) (formAt s) x → SettleAnswered (length s) have (fitted have x)
-    go (given (k, n)) h =
-        cond-in (SettleAnswered (length s) have) (leb n have) (λ t. (h .0, h .1, leb-true n have t, h .2))
+    go : (x : FormAnswer) → Measure (length s) (formAt s) x → SettleAnswered (length s) room (fitted room x)
+    go (returned (k, n)) h =
+        cond-in (SettleAnswered (length s) room) (leb n room) (λ t. (h .0, h .1, leb-true n room t, h .2))
         (λ t. inr (inr (inr (inr (inr (inr (inl refl))))), refl))
-    go (withheld n p) h = h
+    go (refusal n p) h = h
 
-own : (have : ℕ) (s : List ℕ) {n : ℕ} {p : Place} → readAt 0 s ≡ refused n p → settleAt s have ≡ withheld n p
+own : (room : ℕ) (s : List ℕ) {n : ℕ} {p : Place} → readAt 0 s ≡ refused n p → settleAt s room ≡ refusal n p
 unfolding settleAt measureAt
-own have s h = rw h
+own room s h = rw h
 
-untouched : (s buf : List ℕ) {n : ℕ} {p : Place} → settleAt s (length buf) ≡ withheld n p → bufferAt s buf ≡ buf
-unfolding bufferAt
+untouched : (s buf : List ℕ) {n : ℕ} {p : Place} → settleAt s (length buf) ≡ refusal n p → settleBuffer s buf ≡ buf
+unfolding settleBuffer
 untouched s buf h = rw h
 
-filled : (s buf : List ℕ) {k n : ℕ} → settleAt s (length buf) ≡ formed k n → (bufferAt s buf ≡ over (formAt s) buf) × (n ≡ length (formAt s))
-unfolding bufferAt settleAt
+filled : (s buf : List ℕ) {k n : ℕ} → settleAt s (length buf) ≡ formed k n → (settleBuffer s buf ≡ over (formAt s) buf) × (n ≡ length (formAt s))
+unfolding settleBuffer settleAt
 filled s buf {k} {n} h = (rw h, go (measureAt s) (measure-is s) h)
   where
-    go : (x : Settle) → Measure (length s) (formAt s) x → fitted (length buf) x ≡ formed k n → n ≡ length (formAt s)
-    go (given (l, m)) i e =
-        cond-in (λ (y : Settle). y ≡ formed k n → n ≡ length (formAt s)) (leb m (length buf))
+    go : (x : FormAnswer) → Measure (length s) (formAt s) x → fitted (length buf) x ≡ formed k n → n ≡ length (formAt s)
+    go (returned (l, m)) i e =
+        cond-in (λ (y : FormAnswer). y ≡ formed k n → n ≡ length (formAt s)) (leb m (length buf))
         (λ t e. sym (same-form e .1) ∙ i .3)
         (λ t e. absurd (let z : _≡_ {A = ℕ} 0 1 = cc in omega arith)) e
-    go (withheld m p) i e = absurd (let z : _≡_ {A = ℕ} 0 1 = cc in omega arith)
+    go (refusal m p) i e = absurd (let z : _≡_ {A = ℕ} 0 1 = cc in omega arith)
 
 measured-by : (s : List ℕ) → measureAt s ≡ settleAt s 65536
 unfolding settleAt
 measured-by s = go (measureAt s) (measure-is s)
   where
-    go : (x : Settle) → Measure (length s) (formAt s) x → x ≡ fitted 65536 x
-    go (given (k, n)) h = rw (le-leb n 65536 (h .2))
-    go (withheld n p) h = refl
+    go : (x : FormAnswer) → Measure (length s) (formAt s) x → x ≡ fitted 65536 x
+    go (returned (k, n)) h = rw (le-leb n 65536 (h .2))
+    go (refusal n p) h = refl
 
 pub settle-answers : SettleAnswers
 settle-answers =
@@ -128,8 +128,8 @@ number-answers =
       no-reading = λ code s h. ap readingNumbers h;
       value = λ code s h. (ap (codeOf (λ v. 0)) h, λ before. ap (λ (v : Valued). valueAfter v before) h);
       no-value = λ code s h. (ap (codeOf (λ v. 0)) h, λ before. ap (λ (v : Valued). valueAfter v before) h);
-      bytes = λ code have s h. ap (codeOf (λ n. n)) h;
-      no-bytes = λ code have s h. ap (codeOf (λ n. n)) h;
-      form = λ have s h. ap (codeOf (λ form. form .1)) h;
-      no-form = λ have s h. ap (codeOf (λ form. form .1)) h;
+      bytes = λ code room s h. ap (codeOf (λ n. n)) h;
+      no-bytes = λ code room s h. ap (codeOf (λ n. n)) h;
+      form = λ room s h. ap (codeOf (λ form. form .1)) h;
+      no-form = λ room s h. ap (codeOf (λ form. form .1)) h;
     }

@@ -18,7 +18,7 @@ use Rattle.form.proofs.Reduce.{too-far}
 use Rattle.literal.specs.Readings.{readAt}
 use Rattle.bare_form.specs.Worths.{worthOf}
 use Rattle.settle.proofs.Forms.{same-form}
-use Rattle.settle.specs.Settled.{Settle, given, formed, withheld, measured, measureOf, measureAt, fitted, settleAt, formAt, bufferAt}
+use Rattle.settle.specs.Settled.{FormAnswer, returned, formed, refusal, measured, measureOf, measureAt, fitted, settleAt, formAt, settleBuffer}
 use Rattle.demands.specs.Demand3.{Accepts, Given, TooLarge, PowerTooFar, TooLong, TooSmall}
 use Rattle.demands.proofs.Reference.{demand-2-reference}
 use Rattle.demands.proofs.Worths.{own-read, worth-is, over-unique}
@@ -85,11 +85,11 @@ module _ {s x : List ℕ} {k : ℕ} {w : Worth} (a : Accepts s k) (m : Means s w
   form-is = let h = worth-is s x (a .2) m in rw (a .2, h .0, h .1)
 
   -- by the worth's fault, then by the form's length
-  measure-fault : (n : ℕ) → faultOf w ≡ n → 0 < n → measureAt s ≡ withheld n none
+  measure-fault : (n : ℕ) → faultOf w ≡ n → 0 < n → measureAt s ≡ refusal n none
   unfolding measured
   measure-fault n e p = measure-is ∙ rw (e, ne-eqb n 0 (λ z. omega arith))
 
-  measure-long : faultOf w ≡ 0 → TooLong w x → measureAt s ≡ withheld 47 none
+  measure-long : faultOf w ≡ 0 → TooLong w x → measureAt s ≡ refusal 47 none
   unfolding measured
   measure-long e l = measure-is ∙ rw (e, lt-leb _ 65536 l)
 
@@ -98,54 +98,54 @@ module _ {s x : List ℕ} {k : ℕ} {w : Worth} (a : Accepts s k) (m : Means s w
   measure-given e l = measure-is ∙ rw (e, le-leb _ 65536 l)
 
   -- settling, in the order of the reasons
-  module _ (have : ℕ) where
-    pub settle-large : TooLarge w → settleAt s have ≡ withheld 45 none
+  module _ (room : ℕ) where
+    pub settle-large : TooLarge w → settleAt s room ≡ refusal 45 none
     unfolding settleAt
     settle-large t = rw (measure-fault 45 (large-fault w t) (omega arith))
 
-    pub settle-far : PowerTooFar w → settleAt s have ≡ withheld 46 none
+    pub settle-far : PowerTooFar w → settleAt s room ≡ refusal 46 none
     unfolding settleAt
     settle-far t = rw (measure-fault 46 (far-fault w t) (omega arith))
 
-    pub settle-long : faultOf w ≡ 0 → TooLong w x → settleAt s have ≡ withheld 47 none
+    pub settle-long : faultOf w ≡ 0 → TooLong w x → settleAt s room ≡ refusal 47 none
     unfolding settleAt
     settle-long e l = rw (measure-long e l)
 
-    pub settle-small : faultOf w ≡ 0 → length (formOf w x) ≤ 65536 → TooSmall w x have → settleAt s have ≡ withheld 48 none
+    pub settle-small : faultOf w ≡ 0 → length (formOf w x) ≤ 65536 → TooSmall w x room → settleAt s room ≡ refusal 48 none
     unfolding settleAt
-    settle-small e l h = rw (measure-given e l, lt-leb _ have h)
+    settle-small e l h = rw (measure-given e l, lt-leb _ room h)
 
-    pub settle-given : faultOf w ≡ 0 → length (formOf w x) ≤ 65536 → length (formOf w x) ≤ have → settleAt s have ≡ formed k (length (formOf w x))
+    pub settle-given : faultOf w ≡ 0 → length (formOf w x) ≤ 65536 → length (formOf w x) ≤ room → settleAt s room ≡ formed k (length (formOf w x))
     unfolding settleAt
-    settle-given e l h = rw (measure-given e l, le-leb _ have h)
+    settle-given e l h = rw (measure-given e l, le-leb _ room h)
 
   -- else the form is given
   pub given-form : (buf : List ℕ) → faultOf w ≡ 0 → length (formOf w x) ≤ 65536 → length (formOf w x) ≤ length buf → Given s buf k (formOf w x)
-  unfolding bufferAt
+  unfolding settleBuffer
   given-form buf e l h = let r = settle-given (length buf) e l h in record { answer = r; bytes = rw (r, form-is) }
 
 -- one of the four reasons holds, or none
-pub by-reason : {P : Type 0} (w : Worth) (x : List ℕ) (have : ℕ) → (TooLarge w → P) → (PowerTooFar w → P) → (faultOf w ≡ 0 → TooLong w x → P)
-    → (faultOf w ≡ 0 → length (formOf w x) ≤ 65536 → TooSmall w x have → P)
-    → (faultOf w ≡ 0 → length (formOf w x) ≤ 65536 → length (formOf w x) ≤ have → P) → P
-by-reason w x have f g long small fits =
+pub by-reason : {P : Type 0} (w : Worth) (x : List ℕ) (room : ℕ) → (TooLarge w → P) → (PowerTooFar w → P) → (faultOf w ≡ 0 → TooLong w x → P)
+    → (faultOf w ≡ 0 → length (formOf w x) ≤ 65536 → TooSmall w x room → P)
+    → (faultOf w ≡ 0 → length (formOf w x) ≤ 65536 → length (formOf w x) ≤ room → P) → P
+by-reason w x room f g long small fits =
     by-fault w f g λ a b.
     let e = no-fault w a b in
     by-lt 65536 (length (formOf w x)) (long e) λ l.
-    by-lt have (length (formOf w x)) (small e l) (fits e l)
+    by-lt room (length (formOf w x)) (small e l) (fits e l)
 
 -- ---- a form that is given
 
 -- by the measure, and it fits
-pub given-measure : (s : List ℕ) {k have n : ℕ} → settleAt s have ≡ formed k n → (measureAt s ≡ formed k n) × (n ≤ have)
+pub given-measure : (s : List ℕ) {k room n : ℕ} → settleAt s room ≡ formed k n → (measureAt s ≡ formed k n) × (n ≤ room)
 unfolding settleAt
-given-measure s {k} {have} {n} = go (measureAt s)
+given-measure s {k} {room} {n} = go (measureAt s)
   where
-    go : (r : Settle) → fitted have r ≡ formed k n → (r ≡ formed k n) × (n ≤ have)
-    go (withheld i p) = λ h. absurd (let z : _≡_ {A = ℕ} 0 1 = cc in omega arith)
-    go (given (j, i)) =
-        cond-in (λ (r : Settle). r ≡ formed k n → (formed j i ≡ formed k n) × (n ≤ have)) (leb i have)
-        (λ e h. (h, omega (arith, same-form h .1, leb-true i have e)))
+    go : (r : FormAnswer) → fitted room r ≡ formed k n → (r ≡ formed k n) × (n ≤ room)
+    go (refusal i p) = λ h. absurd (let z : _≡_ {A = ℕ} 0 1 = cc in omega arith)
+    go (returned (j, i)) =
+        cond-in (λ (r : FormAnswer). r ≡ formed k n → (formed j i ≡ formed k n) × (n ≤ room)) (leb i room)
+        (λ e h. (h, omega (arith, same-form h .1, leb-true i room e)))
         (λ e h. absurd (let z : _≡_ {A = ℕ} 0 1 = cc in omega arith))
 
 -- the worth then has no fault, and the form is not too long
@@ -158,7 +158,7 @@ measured-given j w x {k} {n} =
     (λ _ h. absurd (let z : _≡_ {A = ℕ} 0 1 = cc in omega arith)))
     (λ _ h. absurd (let z : _≡_ {A = ℕ} 0 1 = cc in omega arith))
   where
-    P : Settle → Type 0
+    P : FormAnswer → Type 0
     P r = r ≡ formed k n → (j ≡ k) × (n ≡ length (formOf w x)) × (faultOf w ≡ 0) × (length (formOf w x) ≤ 65536)
 
 measure-accepts : (s : List ℕ) {k n : ℕ} → measureAt s ≡ formed k n → Accepts s k
@@ -175,7 +175,7 @@ given-accepts {s} g = measure-accepts s (given-measure s (g .answer) .0)
 -- a text that is accepted has a meaning
 pub accepts-means : {s : List ℕ} {k : ℕ} → Accepts s k → (w : Worth) × (x : List ℕ) × Means s w x
 accepts-means {s} {k} (e, vs, h) =
-    let r = demand-2-reference .accepts 0 s (omega arith) (own-read s h .0) .0 (k, e, vs, h) in
+    let r = demand-2-reference .accepted-exactly 0 s (omega arith) (own-read s h .0) .0 (k, e, vs, h) in
     (r .0, r .1, r .2)
 
 -- all that is known of a form that is given
@@ -186,11 +186,11 @@ pub record Known (f buf x : List ℕ) (w : Worth) : Type 0 where
   pub room : length f ≤ length buf
 
 pub given-known : {s buf f x : List ℕ} {k : ℕ} {w : Worth} → Given s buf k f → Means s w x → Known f buf x w
-unfolding bufferAt
+unfolding settleBuffer
 given-known {s} {buf} {f} {x} {k} {w} g m =
     let a = given-accepts g in
     let q = given-measure s (g .answer) in
     let r = measured-given k w x (sym (measure-is a m) ∙ q .0) in
-    let b : bufferAt s buf ≡ over (formOf w x) buf = rw (g .answer, form-is a m) in
+    let b : settleBuffer s buf ≡ over (formOf w x) buf = rw (g .answer, form-is a m) in
     let e = over-unique f (formOf w x) buf (r .1) (sym (g .bytes) ∙ b) in
     record { is = e; fault = r .2; short = omega (arith, r .1, r .3); room = q .1 }

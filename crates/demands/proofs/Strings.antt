@@ -13,14 +13,14 @@ use Rattle.utf8.proofs.Aligned.{aligned}
 use Rattle.escape.specs.declared.Allowed.{Allowed}
 use Rattle.escape.specs.declared.Allowed.the-variants.{Text, Bytes, C}
 use Rattle.raw.specs.Content.{RawContent}
-use Rattle.string.specs.String.{kindOf, stringRead, stringValue}
+use Rattle.string.specs.String.{stringKind, stringRead, stringValue}
 use Rattle.string.specs.Decode.{written}
 use Rattle.string.specs.Parts.{letterOf, hashes, QuotedParts, RawParts, Tiled, as-quoted, as-raw}
 use Rattle.string.proofs.Sound.{sound}
 use Rattle.string.proofs.Complete.{complete}
 use Rattle.string.proofs.Decodes.{decode-written}
 use Rattle.input.proofs.Checks.{no-fault}
-use Rattle.literal.specs.Decodes.{checkedDecode, checkedBuffer, decodeAt, bufferAt}
+use Rattle.literal.specs.Decodes.{checkedDecode, checkedBuffer, decodeAt, decodeBuffer}
 use Rattle.grammar.specs.Notation.{times}
 use Rattle.grammar.specs.Quoted.{Quoted, Raw, closing, STRING-LITERAL, RAW-STRING-LITERAL, BYTE-STRING-LITERAL, RAW-BYTE-STRING-LITERAL, C-STRING-LITERAL, RAW-C-STRING-LITERAL}
 use Rattle.grammar.specs.Meaning.{Worth, Means, is-string, is-raw-string, is-byte-string, is-raw-byte-string, is-c-string, is-raw-c-string}
@@ -99,12 +99,12 @@ module _ (k : Allowed) {s v x : List ℕ} where
 -- ---- what decoding gives
 
 module _ (k : Allowed) (s : List ℕ) {kind e : ℕ} {vs : Values} (f : Readable s) (g : stringRead k s ≡ accepted kind e vs) where
-  counted : (buf : List ℕ) → length (stringValue k s) ≤ length buf → decodeAt (kindOf k) s (length buf) ≡ written (length (stringValue k s))
+  counted : (buf : List ℕ) → length (stringValue k s) ≤ length buf → decodeAt (stringKind k) s (length buf) ≡ written (length (stringValue k s))
   unfolding decodeAt checkedDecode
   counted buf room = rw (coded k, no-fault s (f .short) (f .utf8)) (sym (decode-written k s buf (sym g) room .0))
 
-  left : (buf : List ℕ) → length (stringValue k s) ≤ length buf → bufferAt (kindOf k) s buf ≡ over (stringValue k s) buf
-  unfolding bufferAt checkedBuffer
+  left : (buf : List ℕ) → length (stringValue k s) ≤ length buf → decodeBuffer (stringKind k) s buf ≡ over (stringValue k s) buf
+  unfolding decodeBuffer checkedBuffer
   left buf room = rw (coded k, no-fault s (f .short) (f .utf8)) (sym (decode-written k s buf (sym g) room .1))
 
 -- ---- what is read is a literal
@@ -114,12 +114,12 @@ worthOf Text v = worth.string v
 worthOf Bytes v = worth.byte-string v
 worthOf C v = worth.c-string v
 
-worth-kind : (k : Allowed) (v : List ℕ) → kindOf k ≡ worth.kindOf (worthOf k v)
+worth-kind : (k : Allowed) (v : List ℕ) → stringKind k ≡ worth.kindOf (worthOf k v)
 worth-kind Text v = refl
 worth-kind Bytes v = refl
 worth-kind C v = refl
 
-worth-gives : (k : Allowed) (s : List ℕ) (vs : Values) (v : List ℕ) → GivesBytes (kindOf k) s vs v → Gives s vs (worthOf k v)
+worth-gives : (k : Allowed) (s : List ℕ) (vs : Values) (v : List ℕ) → GivesBytes (stringKind k) s vs v → Gives s vs (worthOf k v)
 worth-gives Text s vs v g = g
 worth-gives Bytes s vs v g = g
 worth-gives C s vs v g = g
@@ -139,7 +139,7 @@ string-found k s {kind} {e} {vs} f g =
     let r = sound k s g in
     go (stringValue k s) (r .0) (λ h is. record { hashes = h; values = is; count = counted k s f g; bytes = left k s f g }) (r .1)
   where
-    go : (v : List ℕ) → kind ≡ kindOf k → ((h : Rawness) → vs ≡ decoded h (length v) → GivesBytes (kindOf k) s vs v) → Tiled k s v e vs
+    go : (v : List ℕ) → kind ≡ stringKind k → ((h : Rawness) → vs ≡ decoded h (length v) → GivesBytes (stringKind k) s vs v) → Tiled k s v e vs
         → Found s kind e vs
     go v same gives (as-quoted c x p end is) =
         record {
@@ -163,7 +163,7 @@ string-found k s {kind} {e} {vs} f g =
 -- ---- each literal is read
 
 module _ (k : Allowed) (s : List ℕ) {v x : List ℕ} (u : Utf8 s) where
-  quoted-read : QUOTED k s v x → (e : ℕ) × (vs : Values) × (stringRead k s ≡ accepted (kindOf k) e vs)
+  quoted-read : QUOTED k s v x → (e : ℕ) × (vs : Values) × (stringRead k s ≡ accepted (stringKind k) e vs)
   quoted-read l =
       let p = quoted-from k l in (
         length s - length x,
@@ -171,7 +171,7 @@ module _ (k : Allowed) (s : List ℕ) {v x : List ℕ} (u : Utf8 s) where
         complete k s v (aligned s u) (as-quoted (l .content) x p (start-is (quoted-ends k p)) refl) .0,
       )
 
-  raw-read : RAWS k s v x → (e : ℕ) × (vs : Values) × (stringRead k s ≡ accepted (kindOf k) e vs)
+  raw-read : RAWS k s v x → (e : ℕ) × (vs : Values) × (stringRead k s ≡ accepted (stringKind k) e vs)
   raw-read l =
       let p = raw-parts k l in (
         length s - length x,
@@ -185,7 +185,7 @@ LITERAL Text s v x = STRING-LITERAL s v x ⊎ RAW-STRING-LITERAL s v x
 LITERAL Bytes s v x = BYTE-STRING-LITERAL s v x ⊎ RAW-BYTE-STRING-LITERAL s v x
 LITERAL C s v x = C-STRING-LITERAL s v x ⊎ RAW-C-STRING-LITERAL s v x
 
-pub string-read : (k : Allowed) (s v x : List ℕ) → Utf8 s → LITERAL k s v x → (e : ℕ) × (vs : Values) × (stringRead k s ≡ accepted (kindOf k) e vs)
+pub string-read : (k : Allowed) (s v x : List ℕ) → Utf8 s → LITERAL k s v x → (e : ℕ) × (vs : Values) × (stringRead k s ≡ accepted (stringKind k) e vs)
 string-read Text s v x u (inl l) = quoted-read Text s u l
 string-read Text s v x u (inr l) = raw-read Text s u l
 string-read Bytes s v x u (inl l) = quoted-read Bytes s u l

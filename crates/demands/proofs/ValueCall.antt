@@ -20,7 +20,7 @@ use Rattle.types.specs.declared.Largest.{Largest}
 use Rattle.types.specs.declared.Largest.the-variants.{Value, NoValues}
 use Rattle.integer.specs.Integer.{baseAt, mainPart, integerRead}
 use Rattle.integer.proofs.Refused.{refused-in}
-use Rattle.integer_value.specs.Value.{given, withheld, number, ofReading, bounded, integerValue}
+use Rattle.integer_value.specs.Value.{returned, refusal, number, ofReading, bounded, integerLitValue}
 use Rattle.input.specs.Checks.{textFault}
 use Rattle.input.proofs.Checks.{long-fault, utf8-fault, no-fault}
 use Rattle.literal.specs.Values.{checkedValue, largestIn, valueWithin, valueAt}
@@ -50,8 +50,8 @@ small-in : (f : IntegerFound) → Small (largestIn f)
 small-in (found.Type t) = small t
 small-in found.Nothing = tt
 
-value-answered : (most : ℕ) (s : List ℕ) → most < 2 ^ 64 → ValueAnswered (length s) (integerValue most s)
-unfolding integerValue
+value-answered : (most : ℕ) (s : List ℕ) → most < 2 ^ 64 → ValueAnswered (length s) (integerLitValue most s)
+unfolding integerLitValue
 value-answered most s l = go (integerRead s) refl
   where
     n : ℕ
@@ -113,7 +113,7 @@ untyped code never =
     is : {A : Type 0} {c most : ℕ} → ValueType c most → code ≡ c → A
     is {most = most} v e = absurd (never most (subst (λ (n : ℕ). ValueType n most) (sym e) v))
 
-bad-code : (code : ℕ) (s : List ℕ) → ((most : ℕ) → ValueType code most → ⊥) → valueAt code s ≡ withheld 42 none
+bad-code : (code : ℕ) (s : List ℕ) → ((most : ℕ) → ValueType code most → ⊥) → valueAt code s ≡ refusal 42 none
 unfolding valueAt
 bad-code code s h = rw (untyped code h)
 
@@ -121,31 +121,31 @@ module _ (code most : ℕ) (s : List ℕ) (v : ValueType code most) where
   l : largestIn (integerCoded code) ≡ Value most
   l = typed v
 
-  too-long : 65536 < length s → valueAt code s ≡ withheld 43 none
+  too-long : 65536 < length s → valueAt code s ≡ refusal 43 none
   unfolding valueAt checkedValue
   too-long h = rw (l, long-fault s h)
 
-  not-utf8 : length s ≤ 65536 → (Utf8 s → ⊥) → valueAt code s ≡ withheld 44 none
+  not-utf8 : length s ≤ 65536 → (Utf8 s → ⊥) → valueAt code s ≡ refusal 44 none
   unfolding valueAt checkedValue
   not-utf8 h n = rw (l, utf8-fault s h n)
 
-  pub fine-value : Readable s → valueAt code s ≡ integerValue most s
+  pub fine-value : Readable s → valueAt code s ≡ integerLitValue most s
   unfolding valueAt checkedValue
   fine-value f = rw (l, no-fault s (f .short) (f .utf8))
 
 own : (code most : ℕ) (s : List ℕ) {n : ℕ} {p : Place} → ValueType code most → Readable s
-    → integerRead s ≡ refused n p → valueAt code s ≡ withheld n p
-unfolding integerValue
+    → integerRead s ≡ refused n p → valueAt code s ≡ refusal n p
+unfolding integerLitValue
 own code most s l f h = rw (fine-value code most s l f, h)
 
 no-value : (code most : ℕ) (s : List ℕ) {k e : ℕ} {vs : Values} → ValueType code most → Readable s
-    → integerRead s ≡ accepted k e vs → most < number (baseAt s) (mainPart s) → valueAt code s ≡ withheld 45 none
-unfolding integerValue
+    → integerRead s ≡ accepted k e vs → most < number (baseAt s) (mainPart s) → valueAt code s ≡ refusal 45 none
+unfolding integerLitValue
 no-value code most s l f h g = rw (fine-value code most s l f, h, lt-leb (number (baseAt s) (mainPart s)) most g)
 
 fits : (code most : ℕ) (s : List ℕ) {k e : ℕ} {vs : Values} → ValueType code most → Readable s
-    → integerRead s ≡ accepted k e vs → number (baseAt s) (mainPart s) ≤ most → valueAt code s ≡ given (number (baseAt s) (mainPart s))
-unfolding integerValue
+    → integerRead s ≡ accepted k e vs → number (baseAt s) (mainPart s) ≤ most → valueAt code s ≡ returned (number (baseAt s) (mainPart s))
+unfolding integerLitValue
 fits code most s l f h g = rw (fine-value code most s l f, h, le-leb (number (baseAt s) (mainPart s)) most g)
 
 pub value-answers : ValueAnswers

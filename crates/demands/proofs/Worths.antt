@@ -17,8 +17,7 @@ use Rattle.integer.specs.Integer.{integerRead}
 use Rattle.integer.specs.Parts.{Tiled}
 use Rattle.integer.proofs.Parts.{sound}
 use Rattle.integer_value.specs.Value.{number}
-use Rattle.string.specs.String.{stringRead, stringValue}
-use Rattle.string.specs.String as strings
+use Rattle.string.specs.String.{stringKind, stringRead, stringValue}
 use Rattle.string.specs.Decode.{written}
 use Rattle.string.proofs.Values.{value-utf8}
 use Rattle.literal.specs.Decodes.{decodeAt}
@@ -35,7 +34,7 @@ use Rattle.bare_form.specs.Worths.{worthOf}
 use Rattle.demands.specs.Demand1.{Readable}
 use Rattle.demands.specs.Demand2.{Gives, GivesInteger, GivesBytes}
 use Rattle.demands.proofs.DecodeCall.{decode-answers}
-use Rattle.demands.proofs.Demand2.{demand-2-rust}
+use Rattle.demands.proofs.Demand2.{demand-2-transcribed}
 use Rattle.demands.proofs.Integers.{base-most, number-is}
 use Rattle.demands.proofs.Reference.{demand-2-reference}
 
@@ -72,13 +71,13 @@ over-unique u v buf e h =
 
 -- decoding gives one value
 decoded-value : (k : Allowed) (s v : List ℕ) {kind e : ℕ} {vs : Values} → Readable s → stringRead k s ≡ accepted kind e vs
-    → GivesBytes (strings.kindOf k) s vs v → stringValue k s ≡ v
+    → GivesBytes (stringKind k) s vs v → stringValue k s ≡ v
 decoded-value k s v f h g =
     let w = stringValue k s in
     let buf = v ++ w in
     let l = length-append v w in
-    let a : decodeAt (strings.kindOf k) s (length buf) ≡ written (length v) = g .count buf (omega arith) in
-    let b : decodeAt (strings.kindOf k) s (length buf) ≡ written (length w) = decode-answers .decoded k (length buf) s f h (omega arith) in
+    let a : decodeAt (stringKind k) s (length buf) ≡ written (length v) = g .count buf (omega arith) in
+    let b : decodeAt (stringKind k) s (length buf) ≡ written (length w) = decode-answers .decoded k (length buf) s f h (omega arith) in
     let n : length w ≡ length v = cc in
     over-unique w v v n (sym (decode-answers .filled k s v (g .count v (omega arith))) ∙ g .bytes v (omega arith))
 
@@ -131,4 +130,4 @@ start-boundary s e (decoded r n) b = b .0
 
 pub suffix-utf8 : (s x : List ℕ) {k e : ℕ} {vs : Values} {w : Worth} → readAt 0 s ≡ accepted k e vs → Means s w x → Utf8 x
 suffix-utf8 s x {k} {e} {vs} h m =
-    subst Utf8 (worth-is s x h m .1) (boundary-drop s e (start-boundary s e vs (demand-2-rust .readings s 0 k e vs h .boundaries)))
+    subst Utf8 (worth-is s x h m .1) (boundary-drop s e (start-boundary s e vs (demand-2-transcribed .readings s 0 k e vs h .boundaries)))

@@ -1,14 +1,25 @@
+-- How to read these pages. Texts, forms and buffers are lists of bytes, and ℕ has the numbers from 0 on. After `--` stands what is for the reader alone.
+--   (x : A) → P       for every x of A, P holds; so too {x : A} → P, where x need not be named at a use
+--   (x : A) × P       there is an x of A with P
+--   P × Q, P ⊎ Q      P and Q; P or Q
+--   P → Q, P ↔ Q      if P, then Q; P exactly when Q
+--   P → ⊥, a ≡ b      not P; a and b are equal
+--   a ∷ s, [], p .1   the list s with a in front; the empty list; the second part of p, whose first is p .0. λ v. e takes v to e
+--   T b, cond b x y   the test b is true; x where the test b is true, else y
+--   A record holds when all its lines hold. `use` says in which crate and file the other names are defined.
+--   "Assumes nothing" means: uses no unproved axiom.
+--
 -- Demand 1: "Every call comes to an end for all bytes a club can type or send: with an answer, or with a refusal number and its span as
 -- document 01 gives them; with the text it was handed untouched; and, if refused, with the output buffer exactly as it came."
 --
 -- The calls, with the contracts that are proved of their code. None has a `requires`: any code and any bytes may be handed in.
 --   literal::read                 outcomeOf r ≡ readAt code text
 --   literal::value                valuedOf r ≡ valueAt code text
---   literal::decode               decodedOf r ≡ decodeAt code text (length of out at entry), and out at exit ≡ bufferAt code text (out at entry)
+--   literal::decode               decodedOf r ≡ decodeAt code text (length of out at entry), and out at exit ≡ decodeBuffer code text (out at entry)
 --   literal::integer_from_suffix  r ≡ integerFromSuffix name
 --   literal::float_from_suffix    r ≡ floatFromSuffix name
 --   settle::measure               settledOf r ≡ measureAt text
---   settle::settle                settledOf r ≡ settleAt text (length of out at entry), and out at exit ≡ settle's bufferAt text (out at entry)
+--   settle::settle                settledOf r ≡ settleAt text (length of out at entry), and out at exit ≡ settleBuffer text (out at entry)
 -- and the entries for C, with out at exit as above:
 --   desk::keybasket_read          answer at exit ≡ readingNumbers (readAt entry text)
 --   desk::keybasket_value         r ≡ codeOf (λ v. 0) (valueAt ty text), and value at exit ≡ valueAfter (valueAt ty text) (value at entry)
@@ -25,6 +36,7 @@ use mathlib.Core.Logic.{_⊎_}
 use mathlib.Core.List.{List, [], _∷_}
 use lib.ListN.{length}
 use Rattle.err.specs.Outcome.{Place, none, RefusedIn, Values, Outcome, refused, accepted}
+use Rattle.err.specs.Answer.{Answer, returned, refusal}
 use Rattle.buffer.specs.Buffer.{over}
 use Rattle.utf8.specs.Utf8.{Utf8}
 use Rattle.escape.specs.declared.Allowed.{Allowed}
@@ -35,17 +47,15 @@ use Rattle.types.specs.declared.IntegerType.the-variants.{U8, U16, U32, U64, U1
 use Rattle.types.specs.declared.FloatType.{FloatType}
 use Rattle.types.specs.declared.FloatType.the-variants.{F32, F64}
 use Rattle.integer.specs.Integer.{baseAt, mainPart, integerRead}
-use Rattle.integer_value.specs.Value.{Valued, given, number}
-use Rattle.integer_value.specs.Value as valued
-use Rattle.string.specs.String.{kindOf, stringRead, stringValue}
-use Rattle.string.specs.Decode.{Decode, written, withheld}
+use Rattle.integer_value.specs.Value.{number}
+use Rattle.string.specs.String.{stringKind, stringRead, stringValue}
+use Rattle.string.specs.Decode.{written}
 use Rattle.literal.specs.Readings.{entryRead, readAt}
 use Rattle.literal.specs.Inside.{NoLonger}
 use Rattle.literal.specs.Values.{valueAt}
-use Rattle.literal.specs.Decodes.{decodeAt, bufferAt}
+use Rattle.literal.specs.Decodes.{decodeAt, decodeBuffer}
 use Rattle.literal.specs.Suffixes.{integerFromSuffix, floatFromSuffix}
-use Rattle.settle.specs.Settled.{Settle, formed, measureAt, settleAt, formAt}
-use Rattle.settle.specs.Settled as settled
+use Rattle.settle.specs.Settled.{formed, measureAt, settleAt, formAt, settleBuffer}
 use Rattle.numbers.specs.Numbers.{readingNumbers, valueNumbers, placeNumbers}
 use Rattle.desk.specs.Code.{codeOf, valueAfter}
 
@@ -70,21 +80,21 @@ abbrev pub Answered : ℕ → Outcome → Type 0
 Answered m (accepted k e vs) = (1 ≤ k) × (k ≤ 8) × (e ≤ m) × NoLonger m vs
 Answered m (refused n p) = Numbered m (42 ∷ 43 ∷ 44 ∷ []) n p
 
--- reading answers every code and every text, and refuses it exactly so, in this order
+-- reading returns an answer for every code and every text, and is refused exactly so, in this order
 pub record ReadAnswers : Type 0 where
   pub answered : (code : ℕ) (s : List ℕ) → Answered (length s) (readAt code s)
   pub bad-code : (code : ℕ) (s : List ℕ) → 8 < code → readAt code s ≡ refused 42 none
   pub too-long : (code : ℕ) (s : List ℕ) → code ≤ 8 → 65536 < length s → readAt code s ≡ refused 43 none
   pub not-utf8 : (code : ℕ) (s : List ℕ) → code ≤ 8 → length s ≤ 65536 → (Utf8 s → ⊥) → readAt code s ≡ refused 44 none
   pub own : (code : ℕ) (s : List ℕ) → code ≤ 8 → Readable s → readAt code s ≡ entryRead code s
-  -- 42, 43 and 44 come for no other reason: what an entry itself refuses has one of litrs's numbers. (The value call hands on what entry 2
-  -- refuses, decoding what 5, 7 and 8 refuse.)
+  -- nothing else is refused with 42, 43 or 44: an entry itself refuses with one of litrs's numbers. (The value call is refused as entry 2 is,
+  -- decoding as 5, 7 and 8 are.)
   pub own-number : (code : ℕ) (s : List ℕ) {n : ℕ} {p : Place} → code ≤ 8 → entryRead code s ≡ refused n p → RefusedIn (length s) n p
 
 -- the answers of the value call: a number, or a refusal
-abbrev pub ValueAnswered : ℕ → Valued → Type 0
-ValueAnswered m (given v) = v < 2 ^ 64
-ValueAnswered m (valued.withheld n p) = Numbered m (42 ∷ 43 ∷ 44 ∷ 45 ∷ []) n p
+abbrev pub ValueAnswered : ℕ → Answer ℕ → Type 0
+ValueAnswered m (returned v) = v < 2 ^ 64
+ValueAnswered m (refusal n p) = Numbered m (42 ∷ 43 ∷ 44 ∷ 45 ∷ []) n p
 
 -- 01: "type codes 1 to 4 and 7 to 10": the code of each type that has values, and the type's largest value
 pub data ValueType : ℕ → ℕ → Type 0 where
@@ -97,46 +107,46 @@ pub data ValueType : ℕ → ℕ → Type 0 where
   i32 : ValueType 9 0x7FFFFFFF
   i64 : ValueType 10 0x7FFFFFFFFFFFFFFF
 
--- the value call likewise: every other code is 42, and 45 comes exactly where the number is above the type's largest value
+-- the value call likewise: every other code is refused with 42, and a number with 45 exactly where it is above the type's largest value
 pub record ValueAnswers : Type 0 where
   pub answered : (code : ℕ) (s : List ℕ) → ValueAnswered (length s) (valueAt code s)
-  pub bad-code : (code : ℕ) (s : List ℕ) → ((most : ℕ) → ValueType code most → ⊥) → valueAt code s ≡ valued.withheld 42 none
+  pub bad-code : (code : ℕ) (s : List ℕ) → ((most : ℕ) → ValueType code most → ⊥) → valueAt code s ≡ refusal 42 none
   pub too-long : (code most : ℕ) (s : List ℕ) → ValueType code most → 65536 < length s
-      → valueAt code s ≡ valued.withheld 43 none
+      → valueAt code s ≡ refusal 43 none
   pub not-utf8 : (code most : ℕ) (s : List ℕ) → ValueType code most → length s ≤ 65536 → (Utf8 s → ⊥)
-      → valueAt code s ≡ valued.withheld 44 none
+      → valueAt code s ≡ refusal 44 none
   pub own : (code most : ℕ) (s : List ℕ) {n : ℕ} {p : Place} → ValueType code most → Readable s
-      → integerRead s ≡ refused n p → valueAt code s ≡ valued.withheld n p
+      → integerRead s ≡ refused n p → valueAt code s ≡ refusal n p
   pub no-value : (code most : ℕ) (s : List ℕ) {k e : ℕ} {vs : Values} → ValueType code most → Readable s
-      → integerRead s ≡ accepted k e vs → most < number (baseAt s) (mainPart s) → valueAt code s ≡ valued.withheld 45 none
+      → integerRead s ≡ accepted k e vs → most < number (baseAt s) (mainPart s) → valueAt code s ≡ refusal 45 none
   pub fits : (code most : ℕ) (s : List ℕ) {k e : ℕ} {vs : Values} → ValueType code most → Readable s
-      → integerRead s ≡ accepted k e vs → number (baseAt s) (mainPart s) ≤ most → valueAt code s ≡ given (number (baseAt s) (mainPart s))
+      → integerRead s ≡ accepted k e vs → number (baseAt s) (mainPart s) ≤ most → valueAt code s ≡ returned (number (baseAt s) (mainPart s))
 
 -- a code with decoded bytes: 5, 7 or 8
 abbrev pub Decodes : ℕ → Type 0
-Decodes code = (k : Allowed) × (code ≡ kindOf k)
+Decodes code = (k : Allowed) × (code ≡ stringKind k)
 
--- the answers of decoding into a buffer of `have` bytes: a count that fits, is at most the text's, and at most 65,536; or a refusal
-abbrev pub DecodeAnswered : ℕ → ℕ → Decode → Type 0
-DecodeAnswered m have (given n) = (n ≤ have) × (n ≤ m) × (n ≤ 65536)
-DecodeAnswered m have (withheld n p) = Numbered m (42 ∷ 43 ∷ 44 ∷ 48 ∷ []) n p
+-- the answers of decoding into a buffer of `room` bytes: a count that fits, is at most the text's length, and at most 65,536; or a refusal
+abbrev pub DecodeAnswered : ℕ → ℕ → Answer ℕ → Type 0
+DecodeAnswered m room (returned n) = (n ≤ room) × (n ≤ m) × (n ≤ 65536)
+DecodeAnswered m room (refusal n p) = Numbered m (42 ∷ 43 ∷ 44 ∷ 48 ∷ []) n p
 
--- decoding likewise: 48 exactly where the buffer is shorter than the value, after everything that a reading can refuse
+-- decoding likewise: it is refused with 48 exactly where the buffer is shorter than the value, after everything that a reading can refuse
 pub record DecodeAnswers : Type 0 where
-  pub answered : (code have : ℕ) (s : List ℕ) → DecodeAnswered (length s) have (decodeAt code s have)
-  pub bad-code : (code have : ℕ) (s : List ℕ) → (Decodes code → ⊥) → decodeAt code s have ≡ withheld 42 none
-  pub too-long : (k : Allowed) (have : ℕ) (s : List ℕ) → 65536 < length s → decodeAt (kindOf k) s have ≡ withheld 43 none
-  pub not-utf8 : (k : Allowed) (have : ℕ) (s : List ℕ) → length s ≤ 65536 → (Utf8 s → ⊥) → decodeAt (kindOf k) s have ≡ withheld 44 none
-  pub own : (k : Allowed) (have : ℕ) (s : List ℕ) {n : ℕ} {p : Place} → Readable s → stringRead k s ≡ refused n p
-      → decodeAt (kindOf k) s have ≡ withheld n p
-  pub too-small : (k : Allowed) (have : ℕ) (s : List ℕ) {kind e : ℕ} {vs : Values} → Readable s → stringRead k s ≡ accepted kind e vs
-      → have < length (stringValue k s) → decodeAt (kindOf k) s have ≡ withheld 48 none
-  pub decoded : (k : Allowed) (have : ℕ) (s : List ℕ) {kind e : ℕ} {vs : Values} → Readable s → stringRead k s ≡ accepted kind e vs
-      → length (stringValue k s) ≤ have → decodeAt (kindOf k) s have ≡ written (length (stringValue k s))
+  pub answered : (code room : ℕ) (s : List ℕ) → DecodeAnswered (length s) room (decodeAt code s room)
+  pub bad-code : (code room : ℕ) (s : List ℕ) → (Decodes code → ⊥) → decodeAt code s room ≡ refusal 42 none
+  pub too-long : (k : Allowed) (room : ℕ) (s : List ℕ) → 65536 < length s → decodeAt (stringKind k) s room ≡ refusal 43 none
+  pub not-utf8 : (k : Allowed) (room : ℕ) (s : List ℕ) → length s ≤ 65536 → (Utf8 s → ⊥) → decodeAt (stringKind k) s room ≡ refusal 44 none
+  pub own : (k : Allowed) (room : ℕ) (s : List ℕ) {n : ℕ} {p : Place} → Readable s → stringRead k s ≡ refused n p
+      → decodeAt (stringKind k) s room ≡ refusal n p
+  pub too-small : (k : Allowed) (room : ℕ) (s : List ℕ) {kind e : ℕ} {vs : Values} → Readable s → stringRead k s ≡ accepted kind e vs
+      → room < length (stringValue k s) → decodeAt (stringKind k) s room ≡ refusal 48 none
+  pub decoded : (k : Allowed) (room : ℕ) (s : List ℕ) {kind e : ℕ} {vs : Values} → Readable s → stringRead k s ≡ accepted kind e vs
+      → length (stringValue k s) ≤ room → decodeAt (stringKind k) s room ≡ written (length (stringValue k s))
   -- "if refused, with the output buffer exactly as it came"
-  pub untouched : (code : ℕ) (s buf : List ℕ) {n : ℕ} {p : Place} → decodeAt code s (length buf) ≡ withheld n p → bufferAt code s buf ≡ buf
-  -- else it holds the value, and behind it what it held there
-  pub filled : (k : Allowed) (s buf : List ℕ) {n : ℕ} → decodeAt (kindOf k) s (length buf) ≡ written n → bufferAt (kindOf k) s buf ≡ over (stringValue k s) buf
+  pub untouched : (code : ℕ) (s buf : List ℕ) {n : ℕ} {p : Place} → decodeAt code s (length buf) ≡ refusal n p → decodeBuffer code s buf ≡ buf
+  -- else it holds the value, and after it what it held there
+  pub filled : (k : Allowed) (s buf : List ℕ) {n : ℕ} → decodeAt (stringKind k) s (length buf) ≡ written n → decodeBuffer (stringKind k) s buf ≡ over (stringValue k s) buf
 
 -- 01, Type codes: the names
 abbrev pub integerName : IntegerType → List ℕ
@@ -157,28 +167,41 @@ abbrev pub floatName : FloatType → List ℕ
 floatName F32 = bytes "f32"
 floatName F64 = bytes "f64"
 
--- both from_suffix answer every name: the code of the type that has it, and 0 "to every other name, of any bytes and length"
+-- both from_suffix return for every name the code of the type that has it, and 0 "to every other name, of any bytes and length"
 pub record SuffixAnswers : Type 0 where
   pub integer : (t : IntegerType) → integerFromSuffix (integerName t) ≡ integerCode t
   pub no-integer : (name : List ℕ) → ((t : IntegerType) → name ≡ integerName t → ⊥) → integerFromSuffix name ≡ 0
   pub float : (t : FloatType) → floatFromSuffix (floatName t) ≡ floatCode t
   pub no-float : (name : List ℕ) → ((t : FloatType) → name ≡ floatName t → ⊥) → floatFromSuffix name ≡ 0
 
--- the answers of settling, and of measuring where `have` is 65,536: a kind and a length that fits, or a refusal. No 42: they take no code
-abbrev pub SettleAnswered : ℕ → ℕ → Settle → Type 0
-SettleAnswered m have (given (k, n)) = (1 ≤ k) × (k ≤ 8) × (n ≤ have) × (n ≤ 65536)
-SettleAnswered m have (settled.withheld n p) = Numbered m (43 ∷ 44 ∷ 45 ∷ 46 ∷ 47 ∷ 48 ∷ []) n p
+-- the answers of settling, and of measuring where `room` is 65,536: a kind and a length that fits, or a refusal. Never with 42: they take no code
+abbrev pub SettleAnswered : ℕ → ℕ → Answer (ℕ × ℕ) → Type 0
+SettleAnswered m room (returned (k, n)) = (1 ≤ k) × (k ≤ 8) × (n ≤ room) × (n ≤ 65536)
+SettleAnswered m room (refusal n p) = Numbered m (43 ∷ 44 ∷ 45 ∷ 46 ∷ 47 ∷ 48 ∷ []) n p
 
--- settling answers every text; what a reading refuses, it refuses so. (When it refuses an accepted text: Demand3.)
+-- settling returns an answer for every text, and is refused as reading by entry 0 is. (When an accepted text is refused: Demand3.)
 pub record SettleAnswers : Type 0 where
-  pub answered : (have : ℕ) (s : List ℕ) → SettleAnswered (length s) have (settleAt s have)
-  pub own : (have : ℕ) (s : List ℕ) {n : ℕ} {p : Place} → readAt 0 s ≡ refused n p → settleAt s have ≡ settled.withheld n p
+  pub answered : (room : ℕ) (s : List ℕ) → SettleAnswered (length s) room (settleAt s room)
+  pub own : (room : ℕ) (s : List ℕ) {n : ℕ} {p : Place} → readAt 0 s ≡ refused n p → settleAt s room ≡ refusal n p
   -- "if refused, with the output buffer exactly as it came"
-  pub untouched : (s buf : List ℕ) {n : ℕ} {p : Place} → settleAt s (length buf) ≡ settled.withheld n p → settled.bufferAt s buf ≡ buf
-  -- else it holds the form, and behind it what it held there
-  pub filled : (s buf : List ℕ) {k n : ℕ} → settleAt s (length buf) ≡ formed k n → (settled.bufferAt s buf ≡ over (formAt s) buf) × (n ≡ length (formAt s))
+  pub untouched : (s buf : List ℕ) {n : ℕ} {p : Place} → settleAt s (length buf) ≡ refusal n p → settleBuffer s buf ≡ buf
+  -- else it holds the form, and after it what it held there
+  pub filled : (s buf : List ℕ) {k n : ℕ} → settleAt s (length buf) ≡ formed k n → (settleBuffer s buf ≡ over (formAt s) buf) × (n ≡ length (formAt s))
   -- the measure of a form is its settling into a buffer that is long enough for every form
   pub measured : (s : List ℕ) → measureAt s ≡ settleAt s 65536
+
+-- the span of a refusal: with one of litrs's numbers, reading the text by the entry code is refused with that number and that span; from 42 on
+-- there is none
+abbrev pub SpanBy : ℕ → List ℕ → ℕ → Place → Type 0
+SpanBy code s n p = (n ≤ 41 → readAt code s ≡ refused n p) × (42 ≤ n → p ≡ none)
+
+-- include/keybasket.h: "Spans are told by keybasket_read: for a value by entry 2, for decoding by the same entry, for settling by entry 0. From 42
+-- on there is none."
+pub record SpanAnswers : Type 0 where
+  pub value : (code : ℕ) (s : List ℕ) {n : ℕ} {p : Place} → valueAt code s ≡ refusal n p → SpanBy 2 s n p
+  pub decode : (code room : ℕ) (s : List ℕ) {n : ℕ} {p : Place} → decodeAt code s room ≡ refusal n p → SpanBy code s n p
+  pub settle : (room : ℕ) (s : List ℕ) {n : ℕ} {p : Place} → settleAt s room ≡ refusal n p → SpanBy 0 s n p
+  pub read : (code : ℕ) (s : List ℕ) {n : ℕ} {p : Place} → readAt code s ≡ refused n p → 42 ≤ n → p ≡ none
 
 -- the entries for C say the same in numbers. A reading's first number is its kind, or 0 where it is refused; a length, which is at most 65,536
 -- (`DecodeAnswers`, `SettleAnswers`), stands for itself, a refusal is 100,000 and its number; a value that is refused is left as it was
@@ -186,15 +209,15 @@ pub record NumberAnswers : Type 0 where
   pub reading : (code : ℕ) (s : List ℕ) {k e : ℕ} {vs : Values} → readAt code s ≡ accepted k e vs
       → readingNumbers (readAt code s) ≡ k ∷ e ∷ valueNumbers vs
   pub no-reading : (code : ℕ) (s : List ℕ) {n : ℕ} {p : Place} → readAt code s ≡ refused n p → readingNumbers (readAt code s) ≡ 0 ∷ n ∷ placeNumbers p
-  pub value : (code : ℕ) (s : List ℕ) {v : ℕ} → valueAt code s ≡ given v
+  pub value : (code : ℕ) (s : List ℕ) {v : ℕ} → valueAt code s ≡ returned v
       → (codeOf (λ v. 0) (valueAt code s) ≡ 0) × ((before : ℕ) → valueAfter (valueAt code s) before ≡ v)
-  pub no-value : (code : ℕ) (s : List ℕ) {n : ℕ} {p : Place} → valueAt code s ≡ valued.withheld n p
+  pub no-value : (code : ℕ) (s : List ℕ) {n : ℕ} {p : Place} → valueAt code s ≡ refusal n p
       → (codeOf (λ v. 0) (valueAt code s) ≡ 100000 + n) × ((before : ℕ) → valueAfter (valueAt code s) before ≡ before)
-  pub bytes : (code have : ℕ) (s : List ℕ) {n : ℕ} → decodeAt code s have ≡ written n → codeOf (λ n. n) (decodeAt code s have) ≡ n
-  pub no-bytes : (code have : ℕ) (s : List ℕ) {n : ℕ} {p : Place} → decodeAt code s have ≡ withheld n p
-      → codeOf (λ n. n) (decodeAt code s have) ≡ 100000 + n
-  pub form : (have : ℕ) (s : List ℕ) {k n : ℕ} → settleAt s have ≡ formed k n → codeOf (λ form. form .1) (settleAt s have) ≡ n
-  pub no-form : (have : ℕ) (s : List ℕ) {n : ℕ} {p : Place} → settleAt s have ≡ settled.withheld n p → codeOf (λ form. form .1) (settleAt s have) ≡ 100000 + n
+  pub bytes : (code room : ℕ) (s : List ℕ) {n : ℕ} → decodeAt code s room ≡ written n → codeOf (λ n. n) (decodeAt code s room) ≡ n
+  pub no-bytes : (code room : ℕ) (s : List ℕ) {n : ℕ} {p : Place} → decodeAt code s room ≡ refusal n p
+      → codeOf (λ n. n) (decodeAt code s room) ≡ 100000 + n
+  pub form : (room : ℕ) (s : List ℕ) {k n : ℕ} → settleAt s room ≡ formed k n → codeOf (λ form. form .1) (settleAt s room) ≡ n
+  pub no-form : (room : ℕ) (s : List ℕ) {n : ℕ} {p : Place} → settleAt s room ≡ refusal n p → codeOf (λ form. form .1) (settleAt s room) ≡ 100000 + n
 
 pub record Demand1 : Type 0 where
   pub read : ReadAnswers
@@ -202,4 +225,5 @@ pub record Demand1 : Type 0 where
   pub decode : DecodeAnswers
   pub suffixes : SuffixAnswers
   pub settle : SettleAnswers
+  pub spans : SpanAnswers
   pub numbers : NumberAnswers

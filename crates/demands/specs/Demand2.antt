@@ -3,9 +3,9 @@
 -- Tokens of The Rust Reference, with the one departure that 01 names, and what they are worth matches one from its chapter Literal expressions,
 -- before any suffix is judged or number rounded."
 --
--- Part one, the Rust's answers. The contracts of the calls (they stand in Demand1) say that the calls answer as `readAt`, `valueAt`, `decodeAt`
--- and `bufferAt` do; here, for every such text, these are the definitions that were transcribed from the Rust, file by file. That those
--- definitions say what the Rust does is not proved: `tests/compare` holds the calls to the Rust itself.
+-- Part one, the definitions that were transcribed from the Rust, file by file. The contracts of the calls (they stand in Demand1) say that the calls
+-- return what `readAt`, `valueAt`, `decodeAt` and `decodeBuffer` say; here, for every such text, that is what the transcribed definitions say. That these
+-- say what the Rust does is not proved: `tests/compare` holds the calls to the Rust itself.
 -- Assumes nothing.
 use Prim.Native.Nat.{ℕ, _+_, _≤_}
 use mathlib.Core.Path.{_≡_}
@@ -18,16 +18,14 @@ use Rattle.boolean.specs.Bool.{boolRead}
 use Rattle.escape.specs.declared.Allowed.{Allowed}
 use Rattle.escape.specs.declared.Allowed.the-variants.{Text, Bytes, C}
 use Rattle.integer.specs.Integer.{integerRead}
-use Rattle.integer_value.specs.Value.{bounded}
-use Rattle.integer_value.specs.Value as litrs
+use Rattle.integer_value.specs.Value.{bounded, integerLitValue}
 use Rattle.float.specs.Float.{floatRead}
 use Rattle.character.specs.Single.{charRead, byteRead}
-use Rattle.string.specs.String.{stringRead}
-use Rattle.string.specs.String as strings
+use Rattle.string.specs.String.{stringKind, stringRead}
 use Rattle.string.specs.Decode.{written, stringDecoded, bufferAfter}
 use Rattle.literal.specs.Readings.{anyRead, readAt}
 use Rattle.literal.specs.Values.{valueAt}
-use Rattle.literal.specs.Decodes.{decodeAt, bufferAt}
+use Rattle.literal.specs.Decodes.{decodeAt, decodeBuffer}
 use Rattle.literal.specs.Inside.{offsets, OnBoundaries, Rising}
 use Rattle.grammar.specs.Decimal.{Decimal}
 use Rattle.grammar.specs.Values.{radixOf, numberIn, powered}
@@ -36,12 +34,13 @@ use Rattle.grammar.specs.Meaning as worth
 use Rattle.scaling.specs.Scaled.{part}
 use Rattle.demands.specs.Demand1.{Readable, ValueType}
 
--- of one text: what reading, value and decoding answer is the Rust's. A reading holds kind, part positions, values and the start of the suffix;
--- a refusal holds the error kind's number and the span. (Both `from_suffix` take names, not texts: Demand1, SuffixAnswers.)
-pub record AsTheRust (s : List ℕ) : Type 0 where
-  -- litrs's `parse`
+-- of one text: what reading, value and decoding return is what the definitions transcribed from the Rust say. A reading holds kind, part positions,
+-- values and the start of the suffix; a refusal holds the error kind's number and the span. (Both `from_suffix` take names, not texts: Demand1,
+-- SuffixAnswers.)
+pub record AsTranscribed (s : List ℕ) : Type 0 where
+  -- from litrs's `parse`
   pub any : readAt 0 s ≡ anyRead s
-  -- the `parse` of `BoolLit`, `IntegerLit`, `FloatLit`, `CharLit`, `StringLit`, `ByteLit`, `ByteStringLit`, `CStringLit`
+  -- from the `parse` of `BoolLit`, `IntegerLit`, `FloatLit`, `CharLit`, `StringLit`, `ByteLit`, `ByteStringLit`, `CStringLit`
   pub bool : readAt 1 s ≡ boolRead s
   pub integer : readAt 2 s ≡ integerRead s
   pub float : readAt 3 s ≡ floatRead s
@@ -50,14 +49,16 @@ pub record AsTheRust (s : List ℕ) : Type 0 where
   pub byte : readAt 6 s ≡ byteRead s
   pub byte-string : readAt 7 s ≡ stringRead Bytes s
   pub c-string : readAt 8 s ≡ stringRead C s
-  -- `IntegerLit::value` at a type whose largest value is `most`
-  pub value : (code most : ℕ) → ValueType code most → valueAt code s ≡ litrs.integerValue most s
-  -- the `value` of `StringLit`, `ByteStringLit` and `CStringLit`, written into a buffer that has `have` bytes or holds buf
-  pub decoded : (k : Allowed) (have : ℕ) → decodeAt (strings.kindOf k) s have ≡ stringDecoded k s have
-  pub buffer : (k : Allowed) (buf : List ℕ) → bufferAt (strings.kindOf k) s buf ≡ bufferAfter k s buf
+  -- from `IntegerLit::value`, at a type whose largest value is `most`
+  pub value : (code most : ℕ) → ValueType code most → valueAt code s ≡ integerLitValue most s
+  -- from the `value` of `StringLit`, `ByteStringLit` and `CStringLit`, written into a buffer that has `room` bytes or holds buf
+  pub decoded : (k : Allowed) (room : ℕ) → decodeAt (stringKind k) s room ≡ stringDecoded k s room
+  pub buffer : (k : Allowed) (buf : List ℕ) → decodeBuffer (stringKind k) s buf ≡ bufferAfter k s buf
 
 -- what holds of every accepted reading by an entry
-pub record Accepted (s : List ℕ) (code k e : ℕ) (vs : Values) : Type 0 where
+pub record SoundReading (s : List ℕ) (code k e : ℕ) (vs : Values) : Type 0 where
+  -- its text is UTF-8 of at most 65,536 bytes
+  pub readable : Readable s
   -- its kind is one of 1 to 8, and the entry's own where the entry is not 0
   pub kind : (1 ≤ k) × (k ≤ 8)
   pub entry : 1 ≤ code → k ≡ code
@@ -68,9 +69,9 @@ pub record Accepted (s : List ℕ) (code k e : ℕ) (vs : Values) : Type 0 where
   pub boundaries : OnBoundaries s (offsets e vs)
   pub rising : Rising (offsets e vs)
 
-pub record Demand2Rust : Type 0 where
-  pub answers : (s : List ℕ) → Readable s → AsTheRust s
-  pub readings : (s : List ℕ) (code k e : ℕ) (vs : Values) → readAt code s ≡ accepted k e vs → Accepted s code k e vs
+pub record Demand2Transcribed : Type 0 where
+  pub answers : (s : List ℕ) → Readable s → AsTranscribed s
+  pub readings : (s : List ℕ) (code k e : ℕ) (vs : Values) → readAt code s ≡ accepted k e vs → SoundReading s code k e vs
 
 -- Part two, the Reference's. `Means s w x` (crate grammar) says that by the two chapters the text s has the worth w and the suffix x.
 
@@ -86,9 +87,9 @@ pub record GivesInteger (s : List ℕ) (vs : Values) (n : ℕ) : Type 0 where
   pub values : vs ≡ digits base start end
   pub radix : base ≡ radixOf s
   pub number : numberIn base (part start end s) ≡ n
-  pub given : (code most : ℕ) → ValueType code most → valueAt code s ≡ bounded most n
+  pub at-each-type : (code most : ℕ) → ValueType code most → valueAt code s ≡ bounded most n
 
--- a float's reading: the digits up to the first end, those behind a period up to the second, and the exponent behind an `e` up to the third
+-- a float's reading: the digits up to the first end, those after a period up to the second, and the exponent after an `e` up to the third
 pub record GivesFloat (s : List ℕ) (vs : Values) (d : Decimal) : Type 0 where
   pub whole : ℕ
   pub fraction : ℕ
@@ -101,7 +102,7 @@ pub record GivesBytes (code : ℕ) (s : List ℕ) (vs : Values) (v : List ℕ) :
   pub hashes : Rawness
   pub values : vs ≡ decoded hashes (length v)
   pub count : (buf : List ℕ) → length v ≤ length buf → decodeAt code s (length buf) ≡ written (length v)
-  pub bytes : (buf : List ℕ) → length v ≤ length buf → bufferAt code s buf ≡ over v buf
+  pub bytes : (buf : List ℕ) → length v ≤ length buf → decodeBuffer code s buf ≡ over v buf
 
 -- what the calls give of a text, whose reading has the values vs, is the worth
 abbrev pub Gives : List ℕ → Values → Worth → Type 0
@@ -116,7 +117,7 @@ Gives s vs (worth.c-string v) = GivesBytes 8 s vs v
 
 pub record Demand2Reference : Type 0 where
   -- an entry accepts a text exactly when the text has a meaning, of a kind that the entry takes
-  pub accepts : (code : ℕ) (s : List ℕ) → code ≤ 8 → Readable s
+  pub accepted-exactly : (code : ℕ) (s : List ℕ) → code ≤ 8 → Readable s
       → ((k e : ℕ) × (vs : Values) × (readAt code s ≡ accepted k e vs)) ↔ ((w : Worth) × (x : List ℕ) × Means s w x × Takes code (kindOf w))
   -- then kind and suffix are the meaning's, and what the calls give is its worth
   pub worth : (code k e : ℕ) (s x : List ℕ) (vs : Values) (w : Worth) → readAt code s ≡ accepted k e vs → Means s w x
@@ -125,5 +126,5 @@ pub record Demand2Reference : Type 0 where
   pub unambiguous : (s x y : List ℕ) (v w : Worth) → Means s v x → Means s w y → (v ≡ w) × (x ≡ y)
 
 pub record Demand2 : Type 0 where
-  pub rust : Demand2Rust
+  pub transcribed : Demand2Transcribed
   pub reference : Demand2Reference

@@ -1,12 +1,15 @@
 -- The marked texts (★) of document 01, by entry 0 and by settling, jointly. `bytes` is a text's UTF-8.
 -- Assumes nothing.
 use mathlib.Core.Path.{_≡_}
-use Prim.Native.Nat.{ℕ}
+use mathlib.Core.List.{List}
+use Prim.Native.Nat.{ℕ, _≤_}
 use Prim.Native.String.{String}
+use lib.ListN.{length}
 use Rattle.err.specs.Outcome.{refused, none, between}
 use Rattle.grammar.specs.Notation.{bytes}
 use Rattle.literal.specs.Readings.{readAt}
-use Rattle.settle.specs.Settled.{formed, withheld, settleAt, formAt}
+use Rattle.settle.specs.Settled.{refusal, settleAt}
+use Rattle.demands.specs.Demand3.{Given}
 
 pub record MarkedReadings : Type 0 where
   pub no-digits : readAt 0 (bytes "0x") ≡ refused 6 (between 2 2)
@@ -17,20 +20,19 @@ pub record MarkedReadings : Type 0 where
   pub cut-escape : readAt 0 (bytes "\"\\x4\"") ≡ refused 9 (between 1 4)
   pub cut-escape-suffixed : readAt 0 (bytes "\"\\x4\"u") ≡ refused 10 (between 1 5)
 
--- a text is given a settled form of a kind and a length, in a buffer of just that length
-pub record Forms (text settled : String) (kind len : ℕ) : Type 0 where
-  pub answer : settleAt (bytes text) len ≡ formed kind len
-  pub form : formAt (bytes text) ≡ bytes settled
+-- a text is given this settled form, of this kind, into every buffer that is long enough
+abbrev pub Forms : String → String → ℕ → Type 0
+Forms text form kind = (buf : List ℕ) → length (bytes form) ≤ length buf → Given (bytes text) buf kind (bytes form)
 
 pub record MarkedForms : Type 0 where
-  pub zero-x : Forms "0b0x3" "00x3" 2 4
-  pub zero-b : Forms "00b1" "00b1" 2 4
-  pub reduced : Forms "1.50e1" "15e0" 3 4
-  pub zero-float : Forms "0e1000001" "0e0" 3 3
-  pub too-far : (have : ℕ) → settleAt (bytes "10e1000000") have ≡ withheld 46 none
-  pub just-near : Forms "0.1e1000001" "1e1000000" 3 9
-  pub c-string : Forms "c\"é\"" "c\"\\xc3\\xa9\"" 8 11
-  pub hex : Forms "0x_1F" "31" 2 2
+  pub zero-x : Forms "0b0x3" "00x3" 2
+  pub zero-b : Forms "00b1" "00b1" 2
+  pub reduced : Forms "1.50e1" "15e0" 3
+  pub zero-float : Forms "0e1000001" "0e0" 3
+  pub too-far : (room : ℕ) → settleAt (bytes "10e1000000") room ≡ refusal 46 none
+  pub just-near : Forms "0.1e1000001" "1e1000000" 3
+  pub c-string : Forms "c\"é\"" "c\"\\xc3\\xa9\"" 8
+  pub hex : Forms "0x_1F" "31" 2
 
 pub record Marked : Type 0 where
   pub readings : MarkedReadings

@@ -10,7 +10,7 @@ ghost use Rattle.literal.specs.Values.{valueAt};
 ghost use Rattle.literal.specs.Decodes.{decodeAt};
 ghost use Rattle.literal.specs.Decodes as decodes;
 ghost use Rattle.literal.specs.Suffixes.{integerFromSuffix, floatFromSuffix};
-ghost use Rattle.settle.specs.Settled.{settledOf, settleAt, bufferAt};
+ghost use Rattle.settle.specs.Settled.{settledOf, settleAt, settleBuffer};
 ghost use Rattle.numbers.specs.Numbers.{readingNumbers};
 ghost use Rattle.desk.specs.Code.{codeOf, valueAfter};
 
@@ -27,7 +27,7 @@ fn code(answer: Settled) -> usize
 #[no_mangle]
 pub extern "C" fn keybasket_settle(text: &[u8], out: &mut [u8]) -> usize
     ensures { λ r. ⌜ r ≡ codeOf (λ form. form .1) (settleAt (now (text .entry)) (length (now (out .entry)))) ⌝ }
-    ensures { λ r. ⌜ now (out .exit) ≡ bufferAt (now (text .entry)) (now (out .entry)) ⌝ }
+    ensures { λ r. ⌜ now (out .exit) ≡ settleBuffer (now (text .entry)) (now (out .entry)) ⌝ }
     ensures { λ r. ⌜ now (text .exit) ≡ now (text .entry) ⌝ }
 {
     code(settle::settle(text, out))
@@ -46,7 +46,7 @@ fn decode_code(answer: Decoded) -> usize
 #[no_mangle]
 pub extern "C" fn keybasket_decode(entry: u64, text: &[u8], out: &mut [u8]) -> usize
     ensures { λ r. ⌜ r ≡ codeOf (λ n. n) (decodeAt entry (now (text .entry)) (length (now (out .entry)))) ⌝ }
-    ensures { λ r. ⌜ now (out .exit) ≡ decodes.bufferAt entry (now (text .entry)) (now (out .entry)) ⌝ }
+    ensures { λ r. ⌜ now (out .exit) ≡ decodes.decodeBuffer entry (now (text .entry)) (now (out .entry)) ⌝ }
     ensures { λ r. ⌜ now (text .exit) ≡ now (text .entry) ⌝ }
 {
     decode_code(literal::decode(entry, text, out))

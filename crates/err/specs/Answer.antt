@@ -5,5 +5,5 @@ use Rattle.err.specs.Outcome.{Place}
 
 -- 01: "A refusal returns number and span"
 pub data Answer (A : Type 0) : Type 0 where
-  given : A → Answer A
-  withheld : ℕ → Place → Answer A
+  returned : A → Answer A
+  refusal : ℕ → Place → Answer A

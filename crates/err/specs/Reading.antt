@@ -31,13 +31,14 @@ baseOf Decimal = 10
 baseOf Hexadecimal = 16
 
 -- 01, Integers: "Prefixes are `0b`, `0o`, `0x`, lower case only"
+-- 48 is `0`, 98 is `b`, 111 is `o`, 120 is `x`
 abbrev pub prefixOf : IntegerBase → List ℕ
 prefixOf Binary = 48 ∷ 98 ∷ []
 prefixOf Octal = 48 ∷ 111 ∷ []
 prefixOf Decimal = []
 prefixOf Hexadecimal = 48 ∷ 120 ∷ []
 
--- two bytes: the prefix, and zeros behind it
+-- two bytes: the prefix, and zeros after it
 abbrev pub prefixBytes : IntegerBase → List ℕ
 prefixBytes b = take 2 (prefixOf b ++ (0 ∷ 0 ∷ []))
 
@@ -46,7 +47,7 @@ hashesOf NotRaw = notRaw
 hashesOf (Raw n) = raw n
 
 -- 01: "Codes 1 to 8 are also the kinds": 1 bool, 2 integer, 3 float, 4 char, 5 string, 6 byte, 7 byte string, 8 C string.
--- Behind the kind stands the start of the suffix.
+-- After the kind stands the start of the suffix.
 abbrev pub outcomeOf : Reading → Outcome
 outcomeOf (reading.Refused k s) = refused (numberOf k) (placeOf s)
 outcomeOf (reading.Bool b) = accepted 1 (b .end) (truth (b .value))

@@ -20,7 +20,7 @@ use Rattle.float.specs.declared.Parsed.the-variants as parsed
 abbrev pub digitsEnd : List ℕ → ℕ → ℕ
 digitsEnd s at = at + run (digit 10) (drop at s)
 
--- a literal with neither fraction nor exponent is 40
+-- a literal with neither fraction nor exponent is refused with 40
 unfoldable pub notInteger : ℕ → ℕ → ℕ → Outcome
 notInteger i f e = cond (eqb i e) (refused 40 none) (accepted 3 e (ends i f e))
 
@@ -31,10 +31,12 @@ afterNumber s i f e =
     (refused (suffixFault (drop e s)) (between e (length s)))
 
 -- "an exponent has a sign or none": where the digits of one that starts at an offset start
+-- 45 is `-`, 43 is `+`
 unfoldable pub signEnd : List ℕ → ℕ → ℕ
 signEnd s at = cond (eqb (getD s (at + 1) 0) 45 || eqb (getD s (at + 1) 0) 43) (at + 1 + 1) (at + 1)
 
 -- "and at least one digit, `_` allowed": there is none, only `_`, from one offset to another
+-- 95 is `_`
 unfoldable pub noDigit : List ℕ → ℕ → ℕ → Bool
 noDigit s from end = eqb (run (only 95) (take (end - from) (drop from s))) (end - from)
 
@@ -42,7 +44,7 @@ noDigit s from end = eqb (run (only 95) (take (end - from) (drop from s))) (end 
 unfoldable pub exponentEnd : List ℕ → ℕ → ℕ
 exponentEnd s f = cond (startsE s f) (digitsEnd s (signEnd s f)) f
 
--- after the fraction: an exponent without a digit is 7
+-- after the fraction: an exponent without a digit is refused with 7
 unfoldable pub afterFraction : List ℕ → ℕ → ℕ → Outcome
 afterFraction s i f =
     cond (startsE s f)
@@ -52,14 +54,17 @@ afterFraction s i f =
     (afterNumber s i f f)
 
 -- "Fraction not starting with `_`; a bare period ends the text": of digits from one offset, after the period, to another
+-- 95 is `_`
 unfoldable pub badFraction : List ℕ → ℕ → ℕ → Bool
 badFraction s from end = eqb (getD s from 0) 95 || (eqb end from && ltb from (length s))
 
 -- where the fraction of an integer part that ends at an offset ends: there, where no period follows, or after the period's digits
+-- 46 is `.`
 unfoldable pub fractionEnd : List ℕ → ℕ → ℕ
 fractionEnd s i = cond (eqb (getD s i 0) 46) (digitsEnd s (i + 1)) i
 
--- after the integer part: a period and what may not follow it are 2, where that stands
+-- after the integer part: what may not follow a period is refused with 2, and the span is its first byte
+-- 46 is `.`
 unfoldable pub afterInteger : List ℕ → ℕ → Outcome
 afterInteger s i =
     cond (eqb (getD s i 0) 46)
@@ -68,7 +73,7 @@ afterInteger s i =
     (afterFraction s i (digitsEnd s (i + 1))))
     (afterFraction s i i)
 
--- of any text: no bytes are 1, a first byte other than a decimal digit is 4
+-- of any text: the empty text is refused with 1, a first byte other than a decimal digit with 4
 unfoldable pub floatRead : List ℕ → Outcome
 floatRead [] = refused 1 none
 floatRead (b ∷ s) = cond (decDigit b) (afterInteger (b ∷ s) (run (digit 10) (b ∷ s))) (refused 4 (between 0 1))

@@ -11,22 +11,26 @@ use Rattle.scan.specs.Sets.{only}
 use Rattle.parse.specs.Sets.{digit, decDigit, startsE}
 use Rattle.suffix.specs.Suffix.{suffixFault}
 
--- none, or a period with digits and `_` behind it, no `_` first
+-- none, or a period with digits and `_` after it, no `_` first
+-- 46 is `.`, 95 is `_`
 pub data Fraction (frac : List ℕ) : Type 0 where
   no-fraction : frac ≡ [] → Fraction frac
   fraction : (ds : List ℕ) → frac ≡ 46 ∷ ds → All (digit 10) ds → Stops (only 95) ds → Fraction frac
 
+-- 43 is `+`, 45 is `-`
 pub data Sign : List ℕ → Type 0 where
   unsigned : Sign []
   plus : Sign (43 ∷ [])
   minus : Sign (45 ∷ [])
 
 -- none, or `e` or `E`, a sign or none, and digits and `_` with at least one digit
+-- 95 is `_`
 pub data Exponent (ex : List ℕ) : Type 0 where
   no-exponent : ex ≡ [] → Exponent ex
   exponent : (letter : ℕ) (sign ds : List ℕ) → ex ≡ letter ∷ (sign ++ ds) → startsE ex 0 ≡ true → Sign sign
       → All (digit 10) ds → run (only 95) ds < length ds → Exponent ex
 
+-- 46 is `.`
 pub record FloatParts (whole frac ex suf : List ℕ) : Type 0 where
   -- digits and `_`, a digit first
   pub digits : All (digit 10) whole
@@ -38,8 +42,8 @@ pub record FloatParts (whole frac ex suf : List ℕ) : Type 0 where
   pub some : frac ≡ [] → ex ≡ [] → ⊥
   -- "a bare period ends the text"
   pub bare : frac ≡ 46 ∷ [] → (ex ≡ []) × (suf ≡ [])
-  -- no part can be longer: the suffix starts with no digit and no `_`, and with `e` or `E` only behind an exponent. Behind the integer part
-  -- stands a period or an `e` (`whole-longest` in proofs/Complete), and behind it no period where there is no fraction (`no-period`)
+  -- no part can be longer: the suffix starts with no digit and no `_`, and with `e` or `E` only after an exponent. After the integer part
+  -- stands a period or an `e` (`whole-longest` in proofs/Complete), and after it no period where there is no fraction (`no-period`)
   pub longest : Stops (digit 10) suf
   pub no-e : ex ≡ [] → startsE suf 0 ≡ false
 

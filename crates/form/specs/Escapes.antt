@@ -10,8 +10,9 @@ use Rattle.utf8.specs.Utf8.{encode}
 use Rattle.utf8.specs.Decode.{decode}
 use Rattle.utf8.specs.declared.Decoded.the-variants.{Char, Bad}
 
--- "Escaped are `\\`, `\n`, `\r`, `\t`, `\0`, and `'` in kinds 4 and 6 or `"` in 5, 7, 8": what stands behind the backslash, where the kind's
+-- "Escaped are `\\`, `\n`, `\r`, `\t`, `\0`, and `'` in kinds 4 and 6 or `"` in 5, 7, 8": what stands after the backslash, where the kind's
 -- quote is q; 0 where there is no such escape
+-- 92 is `\`, 10 is LF, 110 is `n`, 13 is CR, 114 is `r`, 9 is tab, 116 is `t`, 0 is NUL, 48 is `0`
 unfoldable pub letterFor : ℕ → ℕ → ℕ
 letterFor q b =
     cond (eqb b 92) 92
@@ -22,10 +23,12 @@ letterFor q b =
     (cond (eqb b q) q 0)))))
 
 -- "`\x` and two lower-case hex digits"
+-- 92 is `\`, 120 is `x`
 abbrev pub xForm : ℕ → List ℕ
 xForm b = 92 ∷ 120 ∷ hexDigits b
 
 -- an ASCII character: "other bytes below 32 and byte 127 are `\x` ..", the rest "stand as themselves"
+-- 32 is space, 127 is DEL, 92 is `\`
 unfoldable pub asciiForm : ℕ → ℕ → List ℕ
 asciiForm q b =
     cond (eqb (letterFor q b) 0)

@@ -13,14 +13,17 @@ use Rattle.form.specs.Escapes.{charForm, byteForm, charForms, byteForms}
 use Rattle.form.specs.Reduced.{reduce}
 
 -- "Integer: decimal without leading zero or `_`; zero is `0`, but `00` before a suffix starting with b, o or x"
+-- 98 is `b`, 111 is `o`, 120 is `x`, 48 is `0`
 unfoldable pub integerForm : ℕ → List ℕ → List ℕ
 integerForm n x = cond (eqb n 0 && begins (byte 98 ∪ byte 111 ∪ byte 120) x) (48 ∷ 48 ∷ []) (decimal n)
 
 -- "Written m, `e`, k (minus sign if negative). Zero is `0e0`."
+-- 101 is `e`, 45 is `-`
 unfoldable pub reducedForm : Decimal → List ℕ
 reducedForm r = decimal (r .coef) ++ (101 ∷ cond (eqb (r .down) 0) (decimal (r .up)) (45 ∷ decimal (r .down)))
 
 -- of a worth, before the suffix x. "Bool: itself." "Quoted: never raw."
+-- 39 is `'`, 34 is `"`, 98 is `b`, 99 is `c`
 abbrev pub bareForm : Worth → List ℕ → List ℕ
 bareForm (worth.bool true) x = trueText
 bareForm (worth.bool false) x = falseText

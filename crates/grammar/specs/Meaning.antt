@@ -37,9 +37,11 @@ pub data SameWorth : Worth → Worth → Type 0 where
   same-float : {a b : Decimal} → SameValue a b → SameWorth (float a) (float b)
 
 -- `true`, `false`
+-- 116 is `t`, 114 is `r`, 117 is `u`, 101 is `e`
 abbrev pub trueText : List ℕ
 trueText = 116 ∷ 114 ∷ 117 ∷ 101 ∷ []
 
+-- 102 is `f`, 97 is `a`, 108 is `l`, 115 is `s`, 101 is `e`
 abbrev pub falseText : List ℕ
 falseText = 102 ∷ 97 ∷ 108 ∷ 115 ∷ 101 ∷ []
 

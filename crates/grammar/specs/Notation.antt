@@ -62,7 +62,7 @@ abbrev pub times : ℕ → ℕ → List ℕ
 times zero c = []
 times (suc n) c = c ∷ times n c
 
--- one behind the other; `|`; `?`
+-- one after the other; `|`; `?`
 abbrev pub _·_ : Lang → Lang → Lang
 _·_ A B s = (u : List ℕ) × (v : List ℕ) × (s ≡ u ++ v) × A u × B v
 

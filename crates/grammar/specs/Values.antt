@@ -14,6 +14,7 @@ use Rattle.grammar.specs.Decimal.{Decimal}
 -- ---- integers
 
 -- a digit in any radix: `0` to `9`, `A` to `F`, `a` to `f`
+-- 48 is `0`, 57 is `9`, 70 is `F`; 55 and 87 are 10 less than `A` and `a`
 unfoldable pub digitValue : ℕ → ℕ
 digitValue c = cond (leb c 57) (c - 48) (cond (leb c 70) (c - 55) (c - 87))
 
@@ -22,7 +23,7 @@ abbrev pub plain : List ℕ → List ℕ
 plain [] = []
 plain (c ∷ s) = cond (LOW c) (plain s) (c ∷ plain s)
 
--- "The string is converted .. as if by u128::from_str_radix with the chosen radix", behind a number a that was read before
+-- "The string is converted .. as if by u128::from_str_radix with the chosen radix", after a number a that was read before
 abbrev pub numberFrom : ℕ → ℕ → List ℕ → ℕ
 numberFrom radix a [] = a
 numberFrom radix a (c ∷ s) = numberFrom radix (a * radix + digitValue c) s
@@ -30,7 +31,8 @@ numberFrom radix a (c ∷ s) = numberFrom radix (a * radix + digitValue c) s
 unfoldable pub numberIn : ℕ → List ℕ → ℕ
 numberIn radix s = numberFrom radix 0 (plain s)
 
--- "An integer radix is chosen by inspecting the first two characters of the string": 0b is 2, 0o is 8, 0x is 16, "otherwise the radix is 10"
+-- "An integer radix is chosen by inspecting the first two characters of the string": 2 for `0b`, 8 for `0o`, 16 for `0x`, "otherwise the radix is 10"
+-- 48 is `0`, 98 is `b`, 111 is `o`, 120 is `x`
 unfoldable pub radixOf : List ℕ → ℕ
 radixOf s =
     cond (eqb (getD s 0 0) 48 && eqb (getD s 1 0) 98) 2
@@ -44,7 +46,7 @@ integerValue part = numberIn (radixOf part) (cond (eqb (radixOf part) 10) part (
 
 -- ---- floats
 
--- the bytes before the first one of a set, and those behind it
+-- the bytes before the first one of a set, and those after it
 abbrev pub before : Class → List ℕ → List ℕ
 before f [] = []
 before f (c ∷ s) = cond (f c) [] (c ∷ before f s)
@@ -63,10 +65,12 @@ scaled w f negative ex =
     }
 
 -- an exponent: a sign or none, and digits
+-- 45 is `-`
 abbrev pub powered : List ℕ → List ℕ → List ℕ → Decimal
 powered w f ex = scaled w f (begins (byte 45) ex) (cond (begins SIGN ex) (drop 1 ex) ex)
 
 -- of the part before the suffix. "Any underscores are removed from the string. The string is converted .. as if by f64::from_str", but exactly:
--- digits, a period and digits or none, and behind `e` or `E` the exponent
+-- digits, a period and digits or none, and after `e` or `E` the exponent
+-- 46 is `.`
 unfoldable pub floatValue : List ℕ → Decimal
 floatValue part = powered (before (byte 46) (before E part)) (behind (byte 46) (before E part)) (behind E part)

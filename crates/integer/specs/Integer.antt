@@ -21,6 +21,7 @@ use Rattle.integer.specs.declared.Parsed.{Parsed}
 use Rattle.integer.specs.declared.Parsed.the-variants as parsed
 
 -- "Prefixes are `0b`, `0o`, `0x`, lower case only": the base that the first two bytes announce
+-- 48 is `0`, 98 is `b`, 111 is `o`, 120 is `x`
 unfoldable pub baseAt : List ℕ → ℕ
 baseAt s =
     cond (eqb (getD s 0 0) 48)
@@ -54,6 +55,7 @@ afterSuffix s e next =
     (refused (suffixFault (drop e s)) (between e (length s))))
 
 -- "then a leading e or E, then 6". "The span of 41 leaves out the prefix length, a slip of litrs that is kept."
+-- 95 is `_`
 unfoldable pub afterDigits : List ℕ → ℕ → ℕ → ℕ → Outcome → Outcome
 afterDigits s start e n next =
     cond (startsE s e)
@@ -73,7 +75,7 @@ integerOf s base start n =
 unfoldable pub integerAt : List ℕ → Outcome
 integerAt s = integerOf s (baseAt s) (prefixLen (baseAt s)) (mainLen s)
 
--- of any text: no bytes are 1, a first byte other than a decimal digit is 4
+-- of any text: the empty text is refused with 1, a first byte other than a decimal digit with 4
 unfoldable pub integerRead : List ℕ → Outcome
 integerRead [] = refused 1 none
 integerRead (b ∷ s) = cond (decDigit b) (integerAt (b ∷ s)) (refused 4 (between 0 1))

@@ -14,6 +14,7 @@ use Rattle.suffix.specs.Suffix.{suffixFault}
 use Rattle.integer.specs.Integer.{baseAt}
 
 -- each base with its prefix: none, `0b`, `0o`, `0x`
+-- 48 is `0`, 98 is `b`, 111 is `o`, 120 is `x`
 pub data Prefixed : ℕ → List ℕ → Type 0 where
   dec : Prefixed 10 []
   bin : Prefixed 2 (48 ∷ 98 ∷ [])
@@ -23,6 +24,7 @@ pub data Prefixed : ℕ → List ℕ → Type 0 where
 -- digits of the base and `_` at their longest, a byte other than `_` among them, then a good suffix that does not start with e or E.
 -- Where there is no prefix, the first byte is a digit and the first two bytes are no prefix: `0` with the suffix `x3` has no parts of
 -- base ten.
+-- 95 is `_`
 pub record IntegerParts (base : ℕ) (pre main suf : List ℕ) : Type 0 where
   pub prefix : Prefixed base pre
   pub digits : All (digit base) main
@@ -45,8 +47,9 @@ pub record Tiled (s : List ℕ) (k e : ℕ) (v : Values) : Type 0 where
   pub end : e ≡ length pre + length main
   pub values : v ≡ digits base (length pre) e
 
--- decimal digits and the suffix behind them do not start with a prefix: no zero comes first, or a second digit follows, or the
+-- decimal digits and the suffix after them do not start with a prefix: no zero comes first, or a second digit follows, or the
 -- suffix starts with none of b, o, x
+-- 48 is `0`, 98 is `b`, 111 is `o`, 120 is `x`
 abbrev pub Unprefixed : List ℕ → List ℕ → Type 0
 Unprefixed d suf =
     (getD d 0 0 ≡ 48 → ⊥) ⊎

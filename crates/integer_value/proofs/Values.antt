@@ -14,17 +14,17 @@ use Rattle.integer.specs.Parts.{IntegerParts}
 use Rattle.integer.proofs.Parts.{sound, complete, main-part}
 use Rattle.integer_value.specs.declared.Within.{Within}
 use Rattle.integer_value.specs.declared.Within.the-variants.{Number, Over}
-use Rattle.integer_value.specs.Value.{number, numberWithin, Valued, given, withheld, bounded, integerValue}
+use Rattle.integer_value.specs.Value.{number, numberWithin, Valued, returned, refusal, bounded, integerLitValue}
 
 -- a number that is given or above the largest, as a value
 abbrev pub valuedIn : Within → Valued
-valuedIn (Number n) = given n
-valuedIn Over = withheld 45 none
+valuedIn (Number n) = returned n
+valuedIn Over = refusal 45 none
 
 pub bounded-is : (largest n : ℕ) → valuedIn (numberWithin largest n) ≡ bounded largest n
 bounded-is largest n = by-test (leb n largest)
   where
-    by-test : (t : Bool) → valuedIn (cond t (Number n) Over) ≡ cond t (given n) (withheld 45 none)
+    by-test : (t : Bool) → valuedIn (cond t (Number n) Over) ≡ cond t (returned n) (refusal 45 none)
     by-test true = refl
     by-test false = refl
 
@@ -36,13 +36,13 @@ part-slice (suc a) (suc e) [] = rw take-nil
 part-slice (suc a) (suc e) (b ∷ s) = rw suc-sub-suc (part-slice a e s)
 
 -- the value is the number of the digits
-pub value-of-parts : {base : ℕ} {pre main suf : List ℕ} (largest : ℕ) → IntegerParts base pre main suf → integerValue largest (pre ++ (main ++ suf)) ≡ bounded largest (number base main)
-unfolding integerValue
+pub value-of-parts : {base : ℕ} {pre main suf : List ℕ} (largest : ℕ) → IntegerParts base pre main suf → integerLitValue largest (pre ++ (main ++ suf)) ≡ bounded largest (number base main)
+unfolding integerLitValue
 value-of-parts largest h = rw (complete h, main-part h, h .plain)
 
 -- ---- by a reading
 
-pub read-value : (largest : ℕ) (s : List ℕ) {k n base a e : ℕ} → integerRead s ≡ accepted k n (digits base a e) → bounded largest (number base (slice a e s)) ≡ integerValue largest s
+pub read-value : (largest : ℕ) (s : List ℕ) {k n base a e : ℕ} → integerRead s ≡ accepted k n (digits base a e) → bounded largest (number base (slice a e s)) ≡ integerLitValue largest s
 read-value largest s {k} {n} {base} {a} {e} h =
     let t = sound s k n (digits base a e) h in
     cc (t .values, t .end, t .text, slice-main (t .pre) (t .main) (t .suf), value-of-parts largest (t .parts))

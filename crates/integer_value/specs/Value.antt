@@ -6,7 +6,7 @@ use mathlib.Core.List.{List, [], _∷_}
 use lib.Dec.{eqb, leb}
 use Rattle.err.specs.Outcome.{Outcome, refused, accepted, none}
 use Rattle.err.specs.Answer.{Answer}
-pub use Rattle.err.specs.Answer.{given, withheld}
+pub use Rattle.err.specs.Answer.{returned, refusal}
 use Rattle.err.specs.Numbers.{numberOf}
 use Rattle.err.specs.Reading.{placeOf}
 use Rattle.parse.specs.Class.{classOf}
@@ -34,18 +34,18 @@ abbrev pub Valued : Type 0
 Valued = Answer ℕ
 
 abbrev pub valuedOf : IntegerValue → Valued
-valuedOf (value.Given n) = given n
-valuedOf (value.Refused k p) = withheld (numberOf k) (placeOf p)
+valuedOf (value.Given n) = returned n
+valuedOf (value.Refused k p) = refusal (numberOf k) (placeOf p)
 
--- above the largest it is 45
+-- above the largest it is refused with 45
 abbrev pub bounded : ℕ → ℕ → Valued
-bounded largest n = cond (leb n largest) (given n) (withheld 45 none)
+bounded largest n = cond (leb n largest) (returned n) (refusal 45 none)
 
 -- a reading's own refusal comes through
 abbrev pub ofReading : Outcome → Valued → Valued
-ofReading (refused n p) v = withheld n p
+ofReading (refused n p) v = refusal n p
 ofReading (accepted k e vs) v = v
 
 -- "The value, of entry 2's reading, is the digits' number"
-unfoldable pub integerValue : ℕ → List ℕ → Valued
-integerValue largest s = ofReading (integerRead s) (bounded largest (number (baseAt s) (mainPart s)))
+unfoldable pub integerLitValue : ℕ → List ℕ → Valued
+integerLitValue largest s = ofReading (integerRead s) (bounded largest (number (baseAt s) (mainPart s)))

@@ -25,17 +25,17 @@ use Rattle.body.specs.declared.Quoted.{Quoted}
 use Rattle.body.specs.declared.Quoted.the-variants as quoted
 use Rattle.integer.specs.Integer.{baseAt, mainPart, integerRead}
 use Rattle.integer.proofs.Parts.{read-ends}
-use Rattle.integer_value.specs.Value.{number, bounded, integerValue}
+use Rattle.integer_value.specs.Value.{number, bounded, integerLitValue}
 use Rattle.integer_value.specs.Value as value
 use Rattle.integer_value.proofs.Values.{read-value}
-use Rattle.string.specs.String.{kindOf, stringRead, stringValue}
+use Rattle.string.specs.String.{stringKind, stringRead, stringValue}
 use Rattle.string.specs.Decode.{stringDecoded, bufferOf, bufferAfter}
 use Rattle.string.specs.Decode as decode
 use Rattle.input.specs.Checks.{textFault}
 use Rattle.input.proofs.Checks.{no-fault}
 use Rattle.literal.specs.Readings.{entryRead, readAt}
 use Rattle.literal.specs.Values.{checkedValue, refusedValue}
-use Rattle.literal.specs.Decodes.{checkedDecode, checkedBuffer, kindCoded, stringIn, decodeAt, bufferAt}
+use Rattle.literal.specs.Decodes.{checkedDecode, checkedBuffer, kindCoded, stringIn, decodeAt, decodeBuffer}
 use Rattle.literal.specs.declared.KindFound.{KindFound}
 use Rattle.literal.specs.declared.KindFound.the-variants as found
 use Rattle.literal.proofs.Answers.{read-passed, read-kind}
@@ -59,7 +59,7 @@ notInteger = 0 ∷ 1 ∷ 3 ∷ 4 ∷ 5 ∷ 6 ∷ 7 ∷ 8 ∷ []
 module _ (most : ℕ) (s : List ℕ) where
   -- the reading's refusal comes through
   pub value-read : checkedValue most s ≡ value.ofReading (readAt 2 s) (bounded most (number (baseAt s) (mainPart s)))
-  unfolding checkedValue integerValue entryRead
+  unfolding checkedValue integerLitValue entryRead
   value-read = checked (λ o. value.ofReading o (bounded most (number (baseAt s) (mainPart s)))) 2 s (omega arith)
 
   -- a reading by entry 2 that is no integer is refused, and so is its value
@@ -91,7 +91,7 @@ module _ (most : ℕ) (s : List ℕ) where
 -- ---- decoding
 
 -- the code of a kind with decoded bytes is the kind's number
-kind-coded : (code : ℕ) (k : Allowed) → kindCoded code ≡ found.Kind k → code ≡ kindOf k
+kind-coded : (code : ℕ) (k : Allowed) → kindCoded code ≡ found.Kind k → code ≡ stringKind k
 unfolding kindCoded
 kind-coded code k =
     cond-eq P code 5 (is Text) λ _.
@@ -99,19 +99,19 @@ kind-coded code k =
     cond-eq P code 8 (is C) λ _ h. let z : _≡_ {A = ℕ} 0 1 = cc in absurd (omega arith)
   where
     P : KindFound → Type 0
-    P f = f ≡ found.Kind k → code ≡ kindOf k
+    P f = f ≡ found.Kind k → code ≡ stringKind k
 
-    is : (j : Allowed) → code ≡ kindOf j → P (found.Kind j)
+    is : (j : Allowed) → code ≡ stringKind j → P (found.Kind j)
     is j e h = let z : j ≡ k = cc in rw (← z) e
 
-kind-entry : (k : Allowed) (s : List ℕ) → (1 ≤ kindOf k) × (kindOf k ≤ 8) × (entryRead (kindOf k) s ≡ stringRead k s)
+kind-entry : (k : Allowed) (s : List ℕ) → (1 ≤ stringKind k) × (stringKind k ≤ 8) × (entryRead (stringKind k) s ≡ stringRead k s)
 unfolding entryRead
 kind-entry Text s = (omega arith, omega arith, refl)
 kind-entry Bytes s = (omega arith, omega arith, refl)
 kind-entry C s = (omega arith, omega arith, refl)
 
 -- it is 5, 7 or 8
-kind-number : (k : Allowed) → (5 ≤ kindOf k) × (kindOf k ≡ 6 → ⊥)
+kind-number : (k : Allowed) → (5 ≤ stringKind k) × (stringKind k ≡ 6 → ⊥)
 kind-number Text = (omega arith, λ e. absurd (omega arith))
 kind-number Bytes = (omega arith, λ e. absurd (omega arith))
 kind-number C = (omega arith, λ e. absurd (omega arith))
@@ -150,8 +150,8 @@ module _ (code : ℕ) (k : Allowed) (s : List ℕ) (coded : kindCoded code ≡ f
   unfolding decodeAt checkedDecode stringDecoded
   decode-read have = rw (coded, ← own .2) (checked (λ o. decode.ofReading o (stringValue k s) have) code s (own .1))
 
-  pub buffer-read : (buf : List ℕ) → bufferAt code s buf ≡ bufferOf (readAt code s) (stringValue k s) buf
-  unfolding bufferAt checkedBuffer bufferAfter
+  pub buffer-read : (buf : List ℕ) → decodeBuffer code s buf ≡ bufferOf (readAt code s) (stringValue k s) buf
+  unfolding decodeBuffer checkedBuffer bufferAfter
   buffer-read buf = rw (coded, ← own .2) (checked (λ o. bufferOf o (stringValue k s) buf) code s (own .1))
 
   module _ {x e : ℕ} {vs : Values} (is : readAt code s ≡ accepted x e vs) where
@@ -159,7 +159,7 @@ module _ (code : ℕ) (k : Allowed) (s : List ℕ) (coded : kindCoded code ≡ f
     string-short = read-passed code s is .1
 
     -- the text is a literal of the kind
-    pub string-is : accepted (kindOf k) e vs ≡ stringRead k s
+    pub string-is : accepted (stringKind k) e vs ≡ stringRead k s
     string-is = rw (← kind-coded code k coded, ← read-kind code s (own .0) is) (sym (read-passed code s is .3) ∙ own .2)
 
     -- and is decoded as one
@@ -167,6 +167,6 @@ module _ (code : ℕ) (k : Allowed) (s : List ℕ) (coded : kindCoded code ≡ f
     unfolding decodeAt checkedDecode
     string-decoded have = let p = read-passed code s is in rw (coded, no-fault s (p .1) (p .2))
 
-    pub string-buffer : (buf : List ℕ) → bufferAfter k s buf ≡ bufferAt code s buf
-    unfolding bufferAt checkedBuffer
+    pub string-buffer : (buf : List ℕ) → bufferAfter k s buf ≡ decodeBuffer code s buf
+    unfolding decodeBuffer checkedBuffer
     string-buffer buf = let p = read-passed code s is in rw (coded, no-fault s (p .1) (p .2))

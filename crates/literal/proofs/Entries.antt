@@ -13,7 +13,7 @@ use Rattle.parse.specs.Sets.{decDigit}
 use Rattle.escape.specs.declared.Allowed.{Allowed}
 use Rattle.escape.specs.declared.Allowed.the-variants.{Text, Bytes, C}
 use Rattle.integer.proofs.Suffixed.{never}
-use Rattle.string.specs.String.{kindOf, stringRead}
+use Rattle.string.specs.String.{stringKind, stringRead}
 use Rattle.entries.specs.Entries.{startsFloat}
 use Rattle.literal.specs.Readings.{numberRead, byteOrStringRead, anyBy, anyRead, entryRead}
 use Rattle.literal.proofs.KindLaws.{bool-kind, integer-kind, float-kind, char-kind, byte-kind, string-kind}
@@ -89,5 +89,5 @@ any-entry code s {k} {e} {vs} =
     (string Text) (λ h. (byte-kind s h, byte-any s h ∙ h)) (string Bytes) (string C)
     code
   where
-    string : (kind : Allowed) → stringRead kind s ≡ accepted k e vs → (k ≡ kindOf kind) × (anyRead s ≡ accepted k e vs)
+    string : (kind : Allowed) → stringRead kind s ≡ accepted k e vs → (k ≡ stringKind kind) × (anyRead s ≡ accepted k e vs)
     string kind h = (string-kind kind s h, string-any kind s h ∙ h)

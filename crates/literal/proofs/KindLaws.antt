@@ -13,7 +13,7 @@ use Rattle.float.specs.Float.{floatRead}
 use Rattle.float.proofs.Sound as float
 use Rattle.character.specs.Single.{charRead, byteRead}
 use Rattle.character.proofs.Exact.{char-sound, byte-sound}
-use Rattle.string.specs.String.{kindOf, stringRead}
+use Rattle.string.specs.String.{stringKind, stringRead}
 use Rattle.string.proofs.Sound as string
 
 pub bool-kind : (s : List ℕ) {k e : ℕ} {vs : Values} → boolRead s ≡ accepted k e vs → k ≡ 1
@@ -31,5 +31,5 @@ char-kind s h = char-sound s h .1
 pub byte-kind : (s : List ℕ) {k e : ℕ} {vs : Values} → byteRead s ≡ accepted k e vs → k ≡ 6
 byte-kind s h = byte-sound s h .1
 
-pub string-kind : (k : Allowed) (s : List ℕ) {kind e : ℕ} {vs : Values} → stringRead k s ≡ accepted kind e vs → kind ≡ kindOf k
+pub string-kind : (k : Allowed) (s : List ℕ) {kind e : ℕ} {vs : Values} → stringRead k s ≡ accepted kind e vs → kind ≡ stringKind k
 string-kind k s h = string.sound k s h .0

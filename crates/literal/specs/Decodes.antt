@@ -15,14 +15,14 @@ use Rattle.body.specs.declared.Quoted.{Quoted}
 use Rattle.body.specs.declared.Quoted.the-variants as quoted
 use Rattle.escape.specs.declared.Allowed.{Allowed}
 use Rattle.escape.specs.declared.Allowed.the-variants.{Text, Bytes, C}
-use Rattle.string.specs.Decode.{Decode, withheld, stringDecoded, bufferAfter}
+use Rattle.string.specs.Decode.{Decode, refusal, stringDecoded, bufferAfter}
 use Rattle.input.specs.Checks.{textFault}
 use Rattle.literal.specs.declared.KindFound.{KindFound}
 use Rattle.literal.specs.declared.KindFound.the-variants as found
 
--- 43 and 44, then the reading's own refusals, then 48
+-- refused for its length with 43, for not being UTF-8 with 44; then as its reading refuses it; then, where the buffer is too short, with 48
 unfoldable pub checkedDecode : Allowed → List ℕ → ℕ → Decode
-checkedDecode k s have = cond (eqb (textFault s) 0) (stringDecoded k s have) (withheld (textFault s) none)
+checkedDecode k s room = cond (eqb (textFault s) 0) (stringDecoded k s room) (refusal (textFault s) none)
 
 unfoldable pub checkedBuffer : Allowed → List ℕ → List ℕ → List ℕ
 checkedBuffer k s buf = cond (eqb (textFault s) 0) (bufferAfter k s buf) buf
@@ -52,17 +52,17 @@ kindCoded code =
     found.Nothing))
 
 abbrev pub decodeBy : KindFound → List ℕ → ℕ → Decode
-decodeBy (found.Kind k) s have = checkedDecode k s have
-decodeBy found.Nothing s have = withheld 42 none
+decodeBy (found.Kind k) s room = checkedDecode k s room
+decodeBy found.Nothing s room = refusal 42 none
 
-abbrev pub bufferBy : KindFound → List ℕ → List ℕ → List ℕ
-bufferBy (found.Kind k) s buf = checkedBuffer k s buf
-bufferBy found.Nothing s buf = buf
+abbrev pub decodeBufferBy : KindFound → List ℕ → List ℕ → List ℕ
+decodeBufferBy (found.Kind k) s buf = checkedBuffer k s buf
+decodeBufferBy found.Nothing s buf = buf
 
 -- "(other codes 42; ..)", before anything else
 unfoldable pub decodeAt : ℕ → List ℕ → ℕ → Decode
-decodeAt code s have = decodeBy (kindCoded code) s have
+decodeAt code s room = decodeBy (kindCoded code) s room
 
 -- the whole buffer at exit
-unfoldable pub bufferAt : ℕ → List ℕ → List ℕ → List ℕ
-bufferAt code s buf = bufferBy (kindCoded code) s buf
+unfoldable pub decodeBuffer : ℕ → List ℕ → List ℕ → List ℕ
+decodeBuffer code s buf = decodeBufferBy (kindCoded code) s buf

@@ -23,14 +23,17 @@ use Rattle.input.specs.Checks.{textFault}
 unfoldable pub numberRead : List ℕ → Outcome
 numberRead s = cond (startsFloat s) (floatRead s) (integerRead s)
 
--- after `b`: a quote makes it a byte, `r` or a double quote a byte string; anything else is 3
+-- after `b`: a quote makes it a byte, `r` or a double quote a byte string; anything else is refused with 3
+-- 39 is `'`, 114 is `r`, 34 is `"`
 unfoldable pub byteOrStringRead : List ℕ → Outcome
 byteOrStringRead s =
     cond (eqb (getD s 1 0) 39) (byteRead s)
     (cond (eqb (getD s 1 0) 114 || eqb (getD s 1 0) 34) (stringRead Bytes s)
     (refused 3 none))
 
--- by the first byte. `f` and `t` start a bool or nothing (which is 3, as `BoolLit::parse` has it); `c` always goes to the C string
+-- by the first byte. `f` and `t` start a bool or nothing (refused with 3, as `BoolLit::parse` has it); `c` always goes to the C string; any
+-- other byte is refused with 3
+-- 102 is `f`, 116 is `t`, 39 is `'`, 34 is `"`, 114 is `r`, 98 is `b`, 99 is `c`
 unfoldable pub anyBy : ℕ → List ℕ → Outcome
 anyBy b s =
     cond (decDigit b) (numberRead s)
@@ -41,7 +44,7 @@ anyBy b s =
     (cond (eqb b 99) (stringRead C s)
     (refused 3 none))))))
 
--- entry 0: no bytes are 1
+-- entry 0: the empty text is refused with 1
 unfoldable pub anyRead : List ℕ → Outcome
 anyRead [] = refused 1 none
 anyRead (b ∷ s) = anyBy b (b ∷ s)
@@ -59,7 +62,7 @@ entryRead code s =
     (cond (eqb code 7) (stringRead Bytes s)
     (stringRead C s))))))))
 
--- 01, Order: 42, 43, 44, then litrs's own
+-- 01, "Order: 42, 43, 44, then litrs's own": refused for the code with 42, for the text's length with 43, for not being UTF-8 with 44
 unfoldable pub readAt : ℕ → List ℕ → Outcome
 readAt code s =
     cond (leb code 8)

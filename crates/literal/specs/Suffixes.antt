@@ -1,4 +1,4 @@
--- What both `from_suffix` answer: "The `from_suffix` of integers knows 1 to 12, that of floats 13 and 14; each answers 0 to every
+-- What both `from_suffix` return: "The `from_suffix` of integers knows 1 to 12, that of floats 13 and 14; each answers 0 to every
 -- other name, of any bytes and length."
 -- Assumes nothing.
 use Prim.Native.Nat.{ℕ}

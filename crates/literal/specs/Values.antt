@@ -5,7 +5,7 @@ use mathlib.Core.Bool.{cond}
 use mathlib.Core.List.{List}
 use lib.Dec.{eqb}
 use Rattle.err.specs.Outcome.{Outcome, refused, accepted, none}
-use Rattle.integer_value.specs.Value.{Valued, withheld, integerValue}
+use Rattle.integer_value.specs.Value.{Valued, refusal, integerLitValue}
 use Rattle.types.specs.Types.{integerCoded, largestOf}
 use Rattle.types.specs.declared.IntegerFound.{IntegerFound}
 use Rattle.types.specs.declared.IntegerFound.the-variants as found
@@ -13,14 +13,14 @@ use Rattle.types.specs.declared.Largest.{Largest}
 use Rattle.types.specs.declared.Largest.the-variants as largest
 use Rattle.input.specs.Checks.{textFault}
 
--- 43 and 44, which have no span, then what entry 2's reading refuses, then 45
+-- refused for its length with 43, for not being UTF-8 with 44, without a span; then as entry 2's reading refuses it; then, too large, with 45
 unfoldable pub checkedValue : ℕ → List ℕ → Valued
-checkedValue most s = cond (eqb (textFault s) 0) (integerValue most s) (withheld (textFault s) none)
+checkedValue most s = cond (eqb (textFault s) 0) (integerLitValue most s) (refusal (textFault s) none)
 
 -- the refusal of a refused reading; an accepted one has none, and 3 without a span stands for it (for a contract between functions)
 abbrev pub refusedValue : Outcome → Valued
-refusedValue (refused n p) = withheld n p
-refusedValue (accepted k e vs) = withheld 3 none
+refusedValue (refused n p) = refusal n p
+refusedValue (accepted k e vs) = refusal 3 none
 
 -- the largest value that a type code stands for
 abbrev pub largestIn : IntegerFound → Largest
@@ -29,7 +29,7 @@ largestIn found.Nothing = largest.NoValues
 
 abbrev pub valueWithin : Largest → List ℕ → Valued
 valueWithin (largest.Value most) s = checkedValue most s
-valueWithin largest.NoValues s = withheld 42 none
+valueWithin largest.NoValues s = refusal 42 none
 
 -- "type codes 1 to 4 and 7 to 10, all others 42", before anything else
 unfoldable pub valueAt : ℕ → List ℕ → Valued

@@ -19,12 +19,12 @@ ghost use Prim.Native.Nat.{ℕ, _≤_};
 ghost use lib.ListN.{length};
 ghost use Rattle.integer_value.specs.Value.{valuedOf};
 ghost use Rattle.err.specs.Outcome.{Place};
-ghost use Rattle.err.specs.Answer.{withheld};
+ghost use Rattle.err.specs.Answer.{refusal};
 ghost use Rattle.err.specs.Reading.{outcomeOf};
 ghost use Rattle.body.specs.Quote.{refused, quoteOf, IsRefused};
 ghost use Rattle.string.specs.Decode.{decodedOf};
 ghost use Rattle.literal.specs.Readings.{quoteIn, stringKindIn, entryRead, readAt};
-ghost use Rattle.literal.specs.Decodes.{kindCoded, stringIn, decodeAt, bufferAt};
+ghost use Rattle.literal.specs.Decodes.{kindCoded, stringIn, decodeAt, decodeBuffer};
 ghost use Rattle.literal.specs.Values.{refusedValue, valueAt};
 ghost use Rattle.literal.specs.Suffixes.{integerFromSuffix, floatFromSuffix};
 
@@ -163,7 +163,7 @@ fn string_in(found: Reading) -> Quoted
 // The refusal of a reading, as that of its decoding.
 fn refused_decoding(found: Quoted) -> Decoded
     requires { ⌜ IsRefused found ⌝ }
-    ensures { λ r. ⌜ ((n : ℕ) (p : Place) → quoteOf found ≡ refused n p → decodedOf r ≡ withheld n p) ⌝ }
+    ensures { λ r. ⌜ ((n : ℕ) (p : Place) → quoteOf found ≡ refused n p → decodedOf r ≡ refusal n p) ⌝ }
 {
     match found {
         // ruled out by `requires`
@@ -175,7 +175,7 @@ fn refused_decoding(found: Quoted) -> Decoded
 // The decoded bytes of a literal by entry code 5, 7 or 8, written to the front of out.
 pub fn decode(code: u64, text: &[u8], out: &mut [u8]) -> Decoded
     ensures { λ r. ⌜ decodedOf r ≡ decodeAt code (now (text .entry)) (length (now (out .entry))) ⌝ }
-    ensures { λ r. ⌜ now (out .exit) ≡ bufferAt code (now (text .entry)) (now (out .entry)) ⌝ }
+    ensures { λ r. ⌜ now (out .exit) ≡ decodeBuffer code (now (text .entry)) (now (out .entry)) ⌝ }
     ensures { λ r. ⌜ now (text .exit) ≡ now (text .entry) ⌝ }
 {
     let found = kind_from_code(code);

@@ -22,33 +22,33 @@ use Rattle.bare_form.proofs.Lengths.{no-len}
 use Rattle.bare_form.specs.Bare.{len, bad, bareLen, bareBy, bareFormBy, Roomy}
 use Rattle.form_bound.specs.Bound.{surelyFits}
 use Rattle.form_bound.proofs.Sure.{surely}
-use Rattle.settle.specs.Settled.{Settle, given, formed, withheld, measured, measureOf, measureAt, settleAt, formBy, formAt, bufferAt, Fits}
+use Rattle.settle.specs.Settled.{FormAnswer, returned, formed, refusal, measured, measureOf, measureAt, settleAt, formBy, formAt, settleBuffer, Fits}
 
 -- a form is no refusal
-pub no-form {ℓ} : {A : Type ℓ} {k n m : ℕ} {p : Place} → withheld m p ≡ formed k n → A
+pub no-form {ℓ} : {A : Type ℓ} {k n m : ℕ} {p : Place} → refusal m p ≡ formed k n → A
 no-form e = let z : _≡_ {A = ℕ} 0 1 = cc in absurd (omega arith)
 
 -- the kind and the length that a form is given with
 pub same-form : {k j m n : ℕ} → formed k m ≡ formed j n → (k ≡ j) × (m ≡ n)
 same-form e = (ap kind e, ap size e)
   where
-    kind : Settle → ℕ
-    kind (given (k, n)) = k
-    kind (withheld n p) = 0
+    kind : FormAnswer → ℕ
+    kind (returned (k, n)) = k
+    kind (refusal n p) = 0
 
-    size : Settle → ℕ
-    size (given (k, n)) = n
-    size (withheld n p) = 0
+    size : FormAnswer → ℕ
+    size (returned (k, n)) = n
+    size (refusal n p) = 0
 
 -- ---- of a worth w, before a suffix x
 
 module _ (w : Worth) (x : List ℕ) where
-  bare-bad : (k : ℕ) {m : ℕ} {p : Place} → bareLen w x ≡ bad m p → measured k w x ≡ withheld m p
+  bare-bad : (k : ℕ) {m : ℕ} {p : Place} → bareLen w x ≡ bad m p → measured k w x ≡ refusal m p
   unfolding bareLen measured
   bare-bad k {m} {p} = by-test (eqb (faultOf w) 0) _
     where
-      by-test : (t : Bool) (a : Settle) → cond t (len (length (bareForm w x))) (bad (faultOf w) none) ≡ bad m p
-          → cond t a (withheld (faultOf w) none) ≡ withheld m p
+      by-test : (t : Bool) (a : FormAnswer) → cond t (len (length (bareForm w x))) (bad (faultOf w) none) ≡ bad m p
+          → cond t a (refusal (faultOf w) none) ≡ refusal m p
       by-test true a e = no-len (sym e)
       by-test false a e = cc
 
@@ -62,7 +62,7 @@ module _ (w : Worth) (x : List ℕ) where
       by-test false e = no-len e
 
   measured-by : (k : ℕ) → eqb (faultOf w) 0 ≡ true
-      → measured k w x ≡ cond (leb (length (formOf w x)) 65536) (formed k (length (formOf w x))) (withheld 47 none)
+      → measured k w x ≡ cond (leb (length (formOf w x)) 65536) (formed k (length (formOf w x))) (refusal 47 none)
   unfolding measured
   measured-by k e = rw e
 
@@ -71,7 +71,7 @@ module _ (w : Worth) (x : List ℕ) where
   unfolding measured bareLen
   formed-by {k} {j} {n} = by-test (eqb (faultOf w) 0) (leb (length (formOf w x)) 65536)
     where
-      by-test : (t u : Bool) → cond t (cond u (formed k (length (formOf w x))) (withheld 47 none)) (withheld (faultOf w) none) ≡ formed j n
+      by-test : (t u : Bool) → cond t (cond u (formed k (length (formOf w x))) (refusal 47 none)) (refusal (faultOf w) none) ≡ formed j n
           → (cond t (len (length (bareForm w x))) (bad (faultOf w) none) ≡ len (length (bareForm w x))) × (n ≡ length (formOf w x)) × (j ≡ k)
       by-test true true e = let z = same-form e in (refl, sym (z .1), sym (z .0))
       by-test true false e = no-form e
@@ -84,7 +84,7 @@ abbrev pub Ready : List ℕ → Outcome → ℕ → Type 0
 Ready s o have = Fits s o have × (formed (kindIn o) (length (formBy s o)) ≡ measureOf s o)
 
 module _ (s : List ℕ) where
-  pub measure-refused : (o : Outcome) {m : ℕ} {p : Place} → bareBy s o ≡ bad m p → measureOf s o ≡ withheld m p
+  pub measure-refused : (o : Outcome) {m : ℕ} {p : Place} → bareBy s o ≡ bad m p → measureOf s o ≡ refusal m p
   measure-refused (refused n q) e = cc
   measure-refused (accepted k start vs) e = bare-bad (worthOf k s vs) (drop start s) k e
 
@@ -102,12 +102,12 @@ module _ (s : List ℕ) where
   form-count o {n} e = rw (form-split o e, length-append, length-drop) (omega (arith, bare-count o e))
 
   measure-by : (o : Outcome) {n : ℕ} → bareBy s o ≡ len n
-      → measureOf s o ≡ cond (leb (length (formBy s o)) 65536) (formed (kindIn o) (length (formBy s o))) (withheld 47 none)
+      → measureOf s o ≡ cond (leb (length (formBy s o)) 65536) (formed (kindIn o) (length (formBy s o))) (refusal 47 none)
   measure-by (refused n q) e = no-len e
   measure-by (accepted k start vs) e = let w = worthOf k s vs in measured-by w (drop start s) k (bare-len w (drop start s) e .0)
 
   module _ (o : Outcome) {n : ℕ} (e : bareBy s o ≡ len n) where
-    pub measure-long : 65536 < n + (length s - suffixIn o) → measureOf s o ≡ withheld 47 none
+    pub measure-long : 65536 < n + (length s - suffixIn o) → measureOf s o ≡ refusal 47 none
     measure-long h = measure-by o e ∙ rw (lt-leb (length (formBy s o)) 65536 (omega (arith, form-count o e)))
 
     pub measure-formed : n + (length s - suffixIn o) ≤ 65536 → measureOf s o ≡ formed (kindIn o) (n + (length s - suffixIn o))
@@ -134,27 +134,27 @@ form-inside s (accepted k e vs) is f = (start s is, short s is)
 
 -- ---- what settling returns, and the buffer at exit
 
-abbrev pub Answers : List ℕ → List ℕ → Settle → List ℕ → Type 0
-Answers s buf a after = (a ≡ settleAt s (length buf)) × (after ≡ bufferAt s buf)
+abbrev pub Answers : List ℕ → List ℕ → FormAnswer → List ℕ → Type 0
+Answers s buf a after = (a ≡ settleAt s (length buf)) × (after ≡ settleBuffer s buf)
 
 module _ (s buf : List ℕ) (o : Outcome) (is : o ≡ readAt 0 s) where
-  measure-at : {a : Settle} → a ≡ measureOf s o → measureAt s ≡ a
+  measure-at : {a : FormAnswer} → a ≡ measureOf s o → measureAt s ≡ a
   unfolding measureAt
   measure-at e = rw (← is) (sym e)
 
   -- the reading's refusal, 45, 46 and 47 come through
-  pub settle-refused : {m : ℕ} {p : Place} → withheld m p ≡ measureOf s o → Answers s buf (withheld m p) buf
-  unfolding settleAt bufferAt
+  pub settle-refused : {m : ℕ} {p : Place} → refusal m p ≡ measureOf s o → Answers s buf (refusal m p) buf
+  unfolding settleAt settleBuffer
   settle-refused e = rw (measure-at e) (refl, refl)
 
   -- a shorter buffer is 48, and keeps every byte
-  pub settle-small : {k n : ℕ} → formed k n ≡ measureOf s o → length buf < n → Answers s buf (withheld 48 none) buf
-  unfolding settleAt bufferAt
+  pub settle-small : {k n : ℕ} → formed k n ≡ measureOf s o → length buf < n → Answers s buf (refusal 48 none) buf
+  unfolding settleAt settleBuffer
   settle-small {k} {n} e h = rw (measure-at e, lt-leb n (length buf) h) (refl, refl)
 
   -- else the form is written over its front
   pub settle-written : {k n : ℕ} → formed k n ≡ measureOf s o → n ≤ length buf → Answers s buf (formed k n) (over (formBy s o) buf)
-  unfolding settleAt bufferAt formAt
+  unfolding settleAt settleBuffer formAt
   settle-written {k} {n} e h = rw (measure-at e, le-leb n (length buf) h, ← is) (refl, refl)
 
 -- ---- strings that surely fit
@@ -168,6 +168,6 @@ surely-ready s have found is e =
 
 -- a text that is not read is refused as it is there, and the buffer is as it came
 pub read-refused : (s : List ℕ) {n : ℕ} {p : Place} → readAt 0 s ≡ refused n p
-    → ((have : ℕ) → settleAt s have ≡ withheld n p) × ((buf : List ℕ) → bufferAt s buf ≡ buf)
-unfolding measureAt settleAt bufferAt
+    → ((have : ℕ) → settleAt s have ≡ refusal n p) × ((buf : List ℕ) → settleBuffer s buf ≡ buf)
+unfolding measureAt settleAt settleBuffer
 read-refused s e = (λ have. rw e refl, λ buf. rw e refl)

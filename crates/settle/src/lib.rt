@@ -12,7 +12,7 @@ ghost use Rattle.err.specs.Reading.{outcomeOf};
 ghost use Rattle.buffer.specs.Buffer.{Wrote};
 ghost use Rattle.literal.specs.Readings.{readAt};
 ghost use Rattle.bare_form.specs.Bare.{bad, bareOf};
-ghost use Rattle.settle.specs.Settled.{withheld, settledOf, IsBad, measureOf, measureAt, settleAt, bufferAt, formBy, Fits};
+ghost use Rattle.settle.specs.Settled.{refusal, settledOf, IsBad, measureOf, measureAt, settleAt, settleBuffer, formBy, Fits};
 
 // A form's kind and length, or why there is none.
 pub enum Settled {
@@ -23,7 +23,7 @@ pub enum Settled {
 // The refusal of a measure without the suffix.
 fn refused(bare: Bare) -> Settled
     requires { ⌜ IsBad (bareOf bare) ⌝ }
-    ensures { λ r. ⌜ ((n : ℕ) (p : Place) → bareOf bare ≡ bad n p → settledOf r ≡ withheld n p) ⌝ }
+    ensures { λ r. ⌜ ((n : ℕ) (p : Place) → bareOf bare ≡ bad n p → settledOf r ≡ refusal n p) ⌝ }
 {
     match bare {
         // ruled out by `requires`
@@ -71,7 +71,7 @@ pub fn measure(text: &[u8]) -> Settled
 fn settle_found(text: &[u8], out: &mut [u8], found: Reading) -> Settled
     requires { ⌜ outcomeOf found ≡ readAt 0 (now text) ⌝ }
     ensures { λ r. ⌜ settledOf r ≡ settleAt (now (text .entry)) (length (now (out .entry))) ⌝ }
-    ensures { λ r. ⌜ now (out .exit) ≡ bufferAt (now (text .entry)) (now (out .entry)) ⌝ }
+    ensures { λ r. ⌜ now (out .exit) ≡ settleBuffer (now (text .entry)) (now (out .entry)) ⌝ }
 {
     if !form_bound::surely_fits(text, found, out.len()) {
         let measure = measure_of(text, found);
@@ -89,7 +89,7 @@ fn settle_found(text: &[u8], out: &mut [u8], found: Reading) -> Settled
 // A text's settled form, written to the front of out. A refusal leaves every byte of out as it came.
 pub fn settle(text: &[u8], out: &mut [u8]) -> Settled
     ensures { λ r. ⌜ settledOf r ≡ settleAt (now (text .entry)) (length (now (out .entry))) ⌝ }
-    ensures { λ r. ⌜ now (out .exit) ≡ bufferAt (now (text .entry)) (now (out .entry)) ⌝ }
+    ensures { λ r. ⌜ now (out .exit) ≡ settleBuffer (now (text .entry)) (now (out .entry)) ⌝ }
     ensures { λ r. ⌜ now (text .exit) ≡ now (text .entry) ⌝ }
 {
     let found = literal::read(0, text);

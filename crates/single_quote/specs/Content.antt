@@ -32,15 +32,17 @@ abbrev pub decodedBy : Decoded → Quoted
 decodedBy (decoded.Char c n) = content c n
 decodedBy decoded.Bad = fault 19 none
 
--- a character that stands for itself; a byte above 127 is 25
+-- a character that stands for itself; in a byte literal a byte above 127 is refused with 25
 abbrev pub plainAt : Quote → List ℕ → ℕ → Quoted
 plainAt Char s at = decodedBy (decode (drop at s))
 plainAt Byte s at = cond (ltb (getD s at 0) 128) (content (getD s at 0) 1) (fault 25 (between at (at + 1)))
 
 -- LF, tab, CR
+-- 10 is LF, 9 is tab, 13 is CR
 unfoldable pub special : ℕ → Bool
 special b = eqb b 10 || (eqb b 9 || eqb b 13)
 
--- a quote at once: 26 where another follows, else the literal is empty
+-- a quote at once: refused with 26 where another follows, else the literal is empty
+-- 39 is `'`
 unfoldable pub quoteAt : Quote → List ℕ → ℕ → Quoted
 quoteAt q s at = cond (eqb (getD s (at + 1) 0) 39) (fault 26 (between at (at + 1))) (fault (empty q) none)

@@ -13,11 +13,11 @@ use Rattle.single_quote.specs.declared.Quote.{Quote}
 use Rattle.single_quote.specs.declared.Quote.the-variants.{Char, Byte}
 
 -- 01: char is kind 4, byte kind 6
-abbrev pub kindOf : Quote → ℕ
-kindOf Char = 4
-kindOf Byte = 6
+abbrev pub quoteKind : Quote → ℕ
+quoteKind Char = 4
+quoteKind Byte = 6
 
--- behind `'`, behind `b'`
+-- where the character starts: after `'`, after `b'`
 abbrev pub offsetOf : Quote → ℕ
 offsetOf Char = 1
 offsetOf Byte = 2
@@ -43,6 +43,7 @@ empty Char = 21
 empty Byte = 24
 
 -- whether a text starts with `'` or `b'`
+-- 39 is `'`, 98 is `b`
 abbrev pub opensBy : Quote → List ℕ → Bool
 opensBy Char s = eqb (getD s 0 0) 39
 opensBy Byte s = eqb (getD s 0 0) 98 && eqb (getD s 1 0) 39

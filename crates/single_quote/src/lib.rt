@@ -12,7 +12,7 @@ ghost use lib.ListN.{length};
 ghost use Rattle.err.specs.Outcome as outcome;
 ghost use Rattle.err.specs.Numbers.{numberOf};
 ghost use Rattle.err.specs.Reading.{outcomeOf};
-ghost use Rattle.single_quote.specs.Quote.{kindOf, offsetOf, allowedIn, unterminated, overlong, empty, opensBy, startFault, ValueFits};
+ghost use Rattle.single_quote.specs.Quote.{quoteKind, offsetOf, allowedIn, unterminated, overlong, empty, opensBy, startFault, ValueFits};
 ghost use Rattle.single_quote.specs.Content.{innerOf, plainAt, special, quoteAt};
 
 // Which of the two kinds.
@@ -96,7 +96,7 @@ impl Quote {
     // The reading of a literal of the kind.
     pub fn reading(self, value: u32, start_suffix: usize) -> Reading
         requires { ⌜ ValueFits self value ⌝ }
-        ensures { λ r. ⌜ outcomeOf r ≡ outcome.accepted (kindOf self) «start_suffix» (outcome.value value) ⌝ }
+        ensures { λ r. ⌜ outcomeOf r ≡ outcome.accepted (quoteKind self) «start_suffix» (outcome.value value) ⌝ }
     {
         match self {
             Quote::Char => Reading::Char(CharLit {

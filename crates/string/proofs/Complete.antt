@@ -23,7 +23,7 @@ use Rattle.body_value.proofs.Complete as pieces
 use Rattle.raw.specs.Raw.{rawBody}
 use Rattle.raw.proofs.Strings.{raw-is}
 use Rattle.raw.proofs.Contents.{raw-exact}
-use Rattle.string.specs.String.{kindOf, offsetOf, openingBy, openingAt, ofQuote, readBy, stringRead, hashesAt, valueBy, stringValue}
+use Rattle.string.specs.String.{stringKind, offsetOf, openingBy, openingAt, ofQuote, readBy, stringRead, hashesAt, valueBy, stringValue}
 use Rattle.string.specs.Parts.{letterOf, hashes, QuotedParts, RawParts, Tiled, as-quoted, as-raw}
 use Rattle.string.specs.declared.Opening.{Opening}
 use Rattle.string.specs.declared.Opening.the-variants as opening
@@ -75,11 +75,11 @@ behind-hashes h x r = rw hashes-length at (drop-append-add (hashes h) (x ∷ r) 
 
 module _ (k : Allowed) (s v : List ℕ) (e : ℕ) (vs : Values) where
   abbrev Complete : Type 0
-  Complete = (stringRead k s ≡ accepted (kindOf k) e vs) × (stringValue k s ≡ v)
+  Complete = (stringRead k s ≡ accepted (stringKind k) e vs) × (stringValue k s ≡ v)
 
   -- a text that opens is read by its opening
   read-by : (x : ℕ) (r : List ℕ) (o : Opening) → s ≡ letterOf k ++ (x ∷ r) → openingAt k s ≡ o
-      → readBy k o s ≡ accepted (kindOf k) e vs → valueBy k o s ≡ v → Complete
+      → readBy k o s ≡ accepted (stringKind k) e vs → valueBy k o s ≡ v → Complete
   unfolding stringValue
   read-by x r o is opens read val =
       let some : length s ≡ 0 → ⊥ = λ z. omega (arith, ap length is, opened-length k x r, positive k) in
@@ -93,7 +93,7 @@ module _ (k : Allowed) (s v : List ℕ) (e : ℕ) (vs : Values) where
   -- a body that closes, with a good suffix after it
   closed : (r : Rawness) (offset n : ℕ) (b : Body) (suf : List ℕ) → b ≡ record { at = n; value = v; end = close }
       → drop (offset + n + closing r) s ≡ suf → suffixFault suf ≡ 0 → e ≡ offset + n + closing r → vs ≡ decoded r (length v)
-      → ofQuote k (afterBody s r offset b) ≡ accepted (kindOf k) e vs
+      → ofQuote k (afterBody s r offset b) ≡ accepted (stringKind k) e vs
   closed r offset n b suf is rest good end values =
       rw (is, ← suffix-good s r (offset + n + closing r) (length v) _ refl (ap suffixFault rest ∙ good), end, values)
 
@@ -138,6 +138,6 @@ module _ (k : Allowed) (s v : List ℕ) (e : ℕ) (vs : Values) where
 
 -- THE LAW; an escape `\x41` before a byte 10xxxxxx is refused, so the text has to be aligned.
 pub complete : (k : Allowed) (s v : List ℕ) {e : ℕ} {vs : Values} → Aligned s → Tiled k s v e vs
-    → (stringRead k s ≡ accepted (kindOf k) e vs) × (stringValue k s ≡ v)
+    → (stringRead k s ≡ accepted (stringKind k) e vs) × (stringValue k s ≡ v)
 complete k s v {e} {vs} al (as-quoted content suf parts end values) = quoted-complete k s v e vs content suf al parts end values
 complete k s v {e} {vs} al (as-raw suf h parts end values) = raw-complete k s v e vs suf h parts end values

@@ -9,7 +9,7 @@ use Rattle.err.specs.Outcome.{Values, none, accepted}
 use Rattle.buffer.specs.Buffer.{over}
 use Rattle.escape.specs.declared.Allowed.{Allowed}
 use Rattle.string.specs.String.{stringRead, stringValue}
-use Rattle.string.specs.Decode.{Decode, written, withheld, stringDecoded, bufferAfter}
+use Rattle.string.specs.Decode.{Decode, written, refusal, stringDecoded, bufferAfter}
 
 -- what is returned, and the buffer at exit
 abbrev pub Answers : Allowed → List ℕ → List ℕ → Decode → List ℕ → Type 0
@@ -18,7 +18,7 @@ Answers k s buf d after = (d ≡ stringDecoded k s (length buf)) × (after ≡ b
 module _ (k : Allowed) (s buf : List ℕ) where
   module _ {kind e : ℕ} {vs : Values} (is : accepted kind e vs ≡ stringRead k s) where
     -- a shorter buffer is 48, and keeps every byte
-    pub decode-small : length buf < length (stringValue k s) → Answers k s buf (withheld 48 none) buf
+    pub decode-small : length buf < length (stringValue k s) → Answers k s buf (refusal 48 none) buf
     unfolding stringDecoded bufferAfter
     decode-small h = rw (sym is, lt-leb (length (stringValue k s)) (length buf) h) (refl, refl)
 

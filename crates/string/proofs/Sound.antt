@@ -22,7 +22,7 @@ use Rattle.raw.specs.Raw.{rawBody, rawFrom, rawAt, rawOf}
 use Rattle.raw.specs.Content.{RawContent}
 use Rattle.raw.proofs.Bodies.{raw-value}
 use Rattle.raw.proofs.Contents.{raw-exact}
-use Rattle.string.specs.String.{kindOf, offsetOf, openingBy, openingAt, startFault, ofQuote, readBy, stringRead}
+use Rattle.string.specs.String.{stringKind, offsetOf, openingBy, openingAt, startFault, ofQuote, readBy, stringRead}
 use Rattle.string.specs.String.{hashesAt, valueBy, stringValue}
 use Rattle.string.specs.Parts.{letterOf, hashes, Tiled, as-quoted, as-raw}
 use Rattle.string.specs.declared.Opening.{Opening}
@@ -66,7 +66,7 @@ opens C (b ∷ s) =
 -- of an accepted literal whose body ends at an offset
 record Ended (k : Allowed) (s : List ℕ) (r : Rawness) (at len : ℕ) (why : End) (kind e : ℕ) (vs : Values) : Type 0 where
   closes : why ≡ close
-  is-kind : kind ≡ kindOf k
+  is-kind : kind ≡ stringKind k
   start : e ≡ at + closing r
   values : vs ≡ decoded r len
   suffix : suffixFault (drop (at + closing r) s) ≡ 0
@@ -95,7 +95,7 @@ module _ (k : Allowed) (s : List ℕ) (kind e : ℕ) (vs : Values) where
       (λ f g. absurd (let z : _≡_ {A = ℕ} 0 1 = cc in omega arith)) g
 
   abbrev Sound : List ℕ → Type 0
-  Sound v = (kind ≡ kindOf k) × Tiled k s v e vs
+  Sound v = (kind ≡ stringKind k) × Tiled k s v e vs
 
   -- ---- quoted
 
@@ -186,7 +186,7 @@ module _ (k : Allowed) (s : List ℕ) (kind e : ℕ) (vs : Values) where
 
 -- THE LAW: what is accepted is made up of its parts, for every byte list.
 pub sound : (k : Allowed) (s : List ℕ) {kind e : ℕ} {vs : Values} → stringRead k s ≡ accepted kind e vs
-    → (kind ≡ kindOf k) × Tiled k s (stringValue k s) e vs
+    → (kind ≡ stringKind k) × Tiled k s (stringValue k s) e vs
 unfolding stringRead stringValue
 sound k [] g = absurd (let z : _≡_ {A = ℕ} 0 1 = cc in omega arith)
 sound k (b ∷ s) {kind} {e} {vs} g = by-opening k (b ∷ s) kind e vs (openingAt k (b ∷ s)) (opens k (b ∷ s)) (opening-inside k (b ∷ s)) g

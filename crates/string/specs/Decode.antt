@@ -8,7 +8,7 @@ use lib.Dec.{leb}
 use lib.ListN.{length}
 use Rattle.err.specs.Outcome.{Outcome, refused, accepted, none}
 use Rattle.err.specs.Answer.{Answer}
-pub use Rattle.err.specs.Answer.{given, withheld}
+pub use Rattle.err.specs.Answer.{returned, refusal}
 use Rattle.err.specs.Numbers.{numberOf}
 use Rattle.err.specs.Reading.{placeOf}
 use Rattle.buffer.specs.Buffer.{over}
@@ -22,23 +22,23 @@ abbrev pub Decode : Type 0
 Decode = Answer ℕ
 
 abbrev pub written : ℕ → Decode
-written n = given n
+written n = returned n
 
 abbrev pub decodedOf : Decoded → Decode
 decodedOf (answer.Written n) = written n
-decodedOf (answer.Refused k p) = withheld (numberOf k) (placeOf p)
+decodedOf (answer.Refused k p) = refusal (numberOf k) (placeOf p)
 
--- of a value and a buffer of `have` bytes
+-- of a value and a buffer of `room` bytes: refused with 48 where the value is longer
 abbrev pub fitted : List ℕ → ℕ → Decode
-fitted v have = cond (leb (length v) have) (written (length v)) (withheld 48 none)
+fitted v room = cond (leb (length v) room) (written (length v)) (refusal 48 none)
 
 abbrev pub ofReading : Outcome → List ℕ → ℕ → Decode
-ofReading (refused n p) v have = withheld n p
-ofReading (accepted kind e vs) v have = fitted v have
+ofReading (refused n p) v room = refusal n p
+ofReading (accepted kind e vs) v room = fitted v room
 
 -- the reading's own refusals come through
 unfoldable pub stringDecoded : Allowed → List ℕ → ℕ → Decode
-stringDecoded k s have = ofReading (stringRead k s) (stringValue k s) have
+stringDecoded k s room = ofReading (stringRead k s) (stringValue k s) room
 
 abbrev pub bufferOf : Outcome → List ℕ → List ℕ → List ℕ
 bufferOf (refused n p) v buf = buf

@@ -12,17 +12,20 @@ use Rattle.body.specs.Pieces.{Content}
 use Rattle.raw.specs.Content.{RawContent}
 
 -- the kind's letter: none, `b`, `c`
+-- 98 is `b`, 99 is `c`
 abbrev pub letterOf : Allowed → List ℕ
 letterOf Text = []
 letterOf Bytes = 98 ∷ []
 letterOf C = 99 ∷ []
 
 -- h hashes
+-- 35 is `#`
 abbrev pub hashes : ℕ → List ℕ
 hashes zero = []
 hashes (suc h) = 35 ∷ hashes h
 
 -- letter, quote, what stands between the quotes and its value v, quote, a good suffix
+-- 34 is `"`
 pub record QuotedParts (k : Allowed) (s content v suf : List ℕ) : Type 0 where
   pub text : s ≡ letterOf k ++ (34 ∷ (content ++ (34 ∷ suf)))
   pub pieces : Content k content v
@@ -30,6 +33,7 @@ pub record QuotedParts (k : Allowed) (s content v suf : List ℕ) : Type 0 where
 
 -- letter, `r`, at most 255 hashes, quote, the bytes v, which stand for themselves, the first quote that as many hashes follow, those
 -- hashes, a good suffix
+-- 114 is `r`, 34 is `"`
 pub record RawParts (k : Allowed) (s v suf : List ℕ) (h : ℕ) : Type 0 where
   pub text : s ≡ letterOf k ++ (114 ∷ (hashes h ++ (34 ∷ (v ++ (34 ∷ (hashes h ++ suf))))))
   pub few : h ≤ 255

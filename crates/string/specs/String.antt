@@ -19,10 +19,10 @@ use Rattle.string.specs.declared.Opening.{Opening}
 use Rattle.string.specs.declared.Opening.the-variants as opening
 
 -- 01: string is kind 5, byte string 7, C string 8
-abbrev pub kindOf : Allowed → ℕ
-kindOf Text = 5
-kindOf Bytes = 7
-kindOf C = 8
+abbrev pub stringKind : Allowed → ℕ
+stringKind Text = 5
+stringKind Bytes = 7
+stringKind C = 8
 
 -- where the body or the hashes start: after `"` or `r`, after `b"` or `br`, after `c"` or `cr`
 abbrev pub offsetOf : Allowed → ℕ
@@ -31,16 +31,18 @@ offsetOf Bytes = 2
 offsetOf C = 2
 
 -- `"` or `r`
+-- 34 is `"`, 114 is `r`
 unfoldable pub openingBy : ℕ → Opening
 openingBy b = cond (eqb b 34) opening.Quoted (cond (eqb b 114) opening.Raw opening.Neither)
 
 -- the kind's letter, if it has one, and `"` or `r`
+-- 98 is `b`, 99 is `c`
 abbrev pub openingAt : Allowed → List ℕ → Opening
 openingAt Text s = openingBy (getD s 0 0)
 openingAt Bytes s = cond (eqb (getD s 0 0) 98) (openingBy (getD s 1 0)) opening.Neither
 openingAt C s = cond (eqb (getD s 0 0) 99) (openingBy (getD s 1 0)) opening.Neither
 
--- another start: 31 at 0-1, 33, 34
+-- another start is refused: of a string with 31 at its first byte, of a byte string with 33, of a C string with 34
 abbrev pub startFault : Allowed → Outcome
 startFault Text = refused 31 (between 0 1)
 startFault Bytes = refused 33 none
@@ -48,7 +50,7 @@ startFault C = refused 34 none
 
 -- what is read of a body, as one of the kind
 abbrev pub ofQuote : Allowed → Quote → Outcome
-ofQuote k (quote.quoted r start len) = accepted (kindOf k) start (decoded r len)
+ofQuote k (quote.quoted r start len) = accepted (stringKind k) start (decoded r len)
 ofQuote k (quote.refused n p) = refused n p
 
 -- document 01's numbers and values for each case
@@ -60,7 +62,7 @@ readBy k opening.Quoted s = ofQuote k (stringOf k (offsetOf k) s)
 readBy k opening.Raw s = ofQuote k (rawOf k (offsetOf k) s)
 readBy k opening.Neither s = startFault k
 
--- of any text: no bytes are 1
+-- of any text: the empty text is refused with 1
 unfoldable pub stringRead : Allowed → List ℕ → Outcome
 stringRead k [] = refused 1 none
 stringRead k (b ∷ s) = readBy k (openingAt k (b ∷ s)) (b ∷ s)
@@ -68,6 +70,7 @@ stringRead k (b ∷ s) = readBy k (openingAt k (b ∷ s)) (b ∷ s)
 -- ---- the value
 
 -- how many hashes stand at an offset
+-- 35 is `#`
 abbrev pub hashesAt : List ℕ → ℕ → ℕ
 hashesAt s at = run (only 35) (drop at s)
 

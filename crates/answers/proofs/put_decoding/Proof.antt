@@ -8,7 +8,7 @@ use lib.ListN.{length}
 use Rattle.answers.specs.Records.{decodingLine}
 use Rattle.err.specs.Numbers.{numberOf}
 use Rattle.err.specs.Reading.{placeOf}
-use Rattle.string.specs.Decode.{written, withheld, decodedOf}
+use Rattle.string.specs.Decode.{written, refusal, decodedOf}
 use Rattle.literal.specs.Decodes.{decodeAt}
 use Rattle.answers.proofs.Laws as laws
 use borrow.Author.Needs.{needs}
@@ -23,7 +23,7 @@ written-told c = sym (c .before .before .before .before .decode .ensures .0) ∙
 
 refused-told : (c : tie.After-d) →
     let a = c .before .before .before .before .before .before .before .before .before .args in
-    decodeAt (a .code) (a .text .now) (length (a .out .now)) ≡ withheld (numberOf (c .d .given .0 .0)) (placeOf (c .d .given .0 .1 .0))
+    decodeAt (a .code) (a .text .now) (length (a .out .now)) ≡ refusal (numberOf (c .d .given .0 .0)) (placeOf (c .d .given .0 .1 .0))
 refused-told c = sym (c .before .before .before .before .decode .ensures .0) ∙ ap decodedOf (c .d .given .1)
 
 decode-requires : tie.Need-decode-requires

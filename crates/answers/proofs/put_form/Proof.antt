@@ -5,7 +5,7 @@ use mathlib.Core.Path.{_≡_, sym, ap, _∙_}
 use lib.ListN.{length}
 use Rattle.err.specs.Numbers.{numberOf}
 use Rattle.err.specs.Reading.{placeOf}
-use Rattle.settle.specs.Settled.{formed, withheld, settledOf, settleAt}
+use Rattle.settle.specs.Settled.{formed, refusal, settledOf, settleAt}
 use borrow.Author.Needs.{needs}
 use Rattle.answers.proofs.Laws as laws
 use Rattle.answers.proofs.put_form.Statement.{statement}
@@ -19,7 +19,7 @@ formed-told c = sym (c .before .before .before .before .settle .ensures .0) ∙ 
 
 refused-told : (c : tie.After-s) →
     let a = c .before .before .before .before .before .before .before .before .before .args in
-    settleAt (a .text .now) (length (a .out .now)) ≡ withheld (numberOf (c .s .given .0 .0)) (placeOf (c .s .given .0 .1 .0))
+    settleAt (a .text .now) (length (a .out .now)) ≡ refusal (numberOf (c .s .given .0 .0)) (placeOf (c .s .given .0 .1 .0))
 refused-told c = sym (c .before .before .before .before .settle .ensures .0) ∙ ap settledOf (c .s .given .1)
 
 settle-requires : tie.Need-settle-requires

@@ -4,7 +4,7 @@ use mathlib.Core.Path.{_≡_, refl, sym, ap, subst, _∙_}
 use native.Mathlib.Omega.{arith}
 use Rattle.body.specs.Quote.{quoteOf, IsRefused}
 use Rattle.body.specs.declared.Quoted.{Quoted}
-use Rattle.literal.specs.Decodes.{kindCoded, decodeAt, bufferAt}
+use Rattle.literal.specs.Decodes.{kindCoded, decodeAt, decodeBuffer}
 use Rattle.literal.specs.Readings.{readAt}
 use Rattle.literal.specs.declared.KindFound.the-variants as found
 use Rattle.literal.proofs.Calls.{held, string-held, decode-read, buffer-read, string-short, string-is, string-decoded, string-buffer}
@@ -22,7 +22,7 @@ enum-told : tie.Need-enum-told
 enum-told c = search needs
 
 returns : tie.Need-returns
-unfolding decodeAt bufferAt
+unfolding decodeAt decodeBuffer
 returns c = let z = c .before .before .kind-from-code .ensures in
     (rw (← z, c .enum-told .given .1), (rw (← z, c .enum-told .given .1), refl))
 

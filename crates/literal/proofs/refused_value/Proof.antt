@@ -10,7 +10,7 @@ use Rattle.err.specs.Reading.{outcomeOf}
 use Rattle.err.specs.declared.Reading.{Reading}
 use Rattle.err.specs.declared.Reading.the-variants as reading
 use Rattle.err.proofs.Reading.{the-type}
-use Rattle.integer_value.specs.Value.{withheld}
+use Rattle.integer_value.specs.Value.{refusal}
 use Rattle.literal.specs.Values.{refusedValue}
 use borrow.Author.Needs.{needs}
 use Rattle.literal.proofs.refused_value.Statement.{statement}
@@ -26,7 +26,7 @@ returns c = sym (ap (λ (r : Reading). refusedValue (outcomeOf r)) (c .before .f
 abbrev others : List ℕ
 others = 1 ∷ 2 ∷ 3 ∷ 4 ∷ 5 ∷ 6 ∷ 7 ∷ 8 ∷ []
 
-no-refusal : (r : Reading) → OneOf others (tagOf the-type r) → withheld 3 none ≡ refusedValue (outcomeOf r)
+no-refusal : (r : Reading) → OneOf others (tagOf the-type r) → refusal 3 none ≡ refusedValue (outcomeOf r)
 no-refusal (reading.Refused k p) o = absurd (miss others 0 tt o)
 no-refusal (reading.Bool l) o = refl
 no-refusal (reading.Integer l) o = refl
