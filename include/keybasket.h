@@ -144,11 +144,13 @@ static inline const char *keybasket_refusal_name(uint64_t number)
 }
 
 /*
- * The calls. Each takes a text of text_len bytes and never changes it. Every text is taken, of any bytes and any length: it need not be
- * UTF-8, it may hold zero bytes, and no zero byte ends it or what is written. So is every code: an unknown one is refused.
+ * The calls. Each takes a text of text_len bytes, or a name of name_len, and never changes it. Every text and every name is taken, of any bytes
+ * and any length: it need not be UTF-8, it may hold zero bytes, and no zero byte ends it or what is written. So is every code: an unknown one
+ * is refused.
  *
  * The caller sees to it that
- * - text points to text_len readable bytes, out to out_len writable bytes, value to one uint64_t, and numbers to KEYBASKET_NUMBERS of them;
+ * - text points to text_len readable bytes, name to name_len readable bytes, out to out_len writable bytes, value to one uint64_t, and numbers
+ *   to KEYBASKET_NUMBERS of them;
  * - all of that memory has been given a value before the call;
  * - what is read and what is written do not overlap;
  * - no pointer is null, not even at length 0;
