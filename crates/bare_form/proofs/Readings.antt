@@ -6,8 +6,8 @@ use mathlib.Core.List.{List}
 use Prim.Native.Nat.{ℕ, _≤_}
 use native.Mathlib.Omega.{arith}
 use lib.ListN.{length}
-use Rattle.err.specs.Outcome.{Values, Outcome, accepted, truth, decoded}
-use Rattle.err.specs.Reading.{hashesOf, outcomeOf}
+use Rattle.err.specs.Outcome.{Values, Outcome, accepted, truth}
+use Rattle.err.specs.Reading.{valuesOfString, outcomeOf}
 use Rattle.err.specs.declared.BoolLit.{BoolLit}
 use Rattle.err.specs.declared.IntegerLit.{IntegerLit}
 use Rattle.err.specs.declared.FloatLit.{FloatLit}
@@ -53,7 +53,7 @@ module _ (s : List ℕ) {k e : ℕ} {vs : Values} (is : accepted k e vs ≡ read
 
 -- the three kinds with decoded bytes
 abbrev pub stringIn : Allowed → StringLit → Outcome
-stringIn k lit = accepted (stringKind k) (lit .«start_suffix») (decoded (hashesOf (lit .hashes)) (lit .«value_len»))
+stringIn k lit = accepted (stringKind k) (lit .«start_suffix») (valuesOfString lit)
 
 -- the text of a bool is its form
 bool-form : (s x : List ℕ) (t : Bool) {k e : ℕ} → boolRead s ≡ accepted k e (truth t) → bareForm (worth.bool t) x ≡ s

@@ -27,7 +27,7 @@ stringWorth k s =
 -- decoded bytes
 abbrev pub worthOf : ℕ → List ℕ → Values → Worth
 worthOf k s (truth b) = worth.bool b
-worthOf k s (digits base a e) = worth.integer (number base (part a e s))
-worthOf k s (ends i f e) = worth.float (floatAt s i f e)
+worthOf k s (digits d) = worth.integer (number (d .base) (part (d .start) (d .end) s))
+worthOf k s (ends z) = worth.float (floatAt s (z .whole) (z .fraction) (z .end))
 worthOf k s (value v) = singleWorth k v
-worthOf k s (decoded r n) = stringWorth k s
+worthOf k s (decoded v) = stringWorth k s

@@ -351,7 +351,7 @@ found s {k} {e} {vs} l h =
     let i = length (o .whole) in
     let f = i + length (o .frac) in
     let z = f + length (o .ex) in
-    let r : accepted 3 z (ends i f z) ≡ accepted k e vs = sym (complete (o .parts)) ∙ ap floatRead (sym w) ∙ h in
+    let r : accepted 3 z (ends (record { whole = i; fraction = f; end = z })) ≡ accepted k e vs = sym (complete (o .parts)) ∙ ap floatRead (sym w) ∙ h in
     let q : z ≡ e = cc in
     record {
       worth = float (floatValue (l .part));
@@ -360,9 +360,7 @@ found s {k} {e} {vs} l h =
       kind = cc;
       rest = ap (λ (n : ℕ). drop n s) (sym q) ∙ ap (drop z) w ∙ rest (o .whole) (o .frac) (o .ex) (l .suffix);
       gives = record {
-        whole = i;
-        fraction = f;
-        end = z;
+        marks = record { whole = i; fraction = f; end = z };
         values = cc;
         number =
             ap (λ (u : List ℕ). powered (part 0 i u) (part (i + 1) f u) (part (f + 1) z u)) w ∙ float-number (o .parts)

@@ -256,13 +256,11 @@ part-value {base} {pre} p main a = rw (radix-is (pre ++ main), part-base p main 
 -- ---- what litrs reads
 
 gives : {base : ℕ} {pre main suf : List ℕ} → IntegerParts base pre main suf → Readable (pre ++ (main ++ suf))
-    → GivesInteger (pre ++ (main ++ suf)) (digits base (length pre) (length pre + length main)) (integerValue (pre ++ main))
+    → GivesInteger (pre ++ (main ++ suf)) (digits (record { base = base; start = length pre; end = length pre + length main })) (integerValue (pre ++ main))
 gives {base} {pre} {main} {suf} h f =
     let v = part-value (h .prefix) main (h .digits) in
     record {
-      base = base;
-      start = length pre;
-      end = length pre + length main;
+      marks = record { base = base; start = length pre; end = length pre + length main };
       values = refl;
       number = rw (add-sub-cancel-left, drop-append-seam, take-append-seam) (sym v);
       radix = sym (radix-is (pre ++ (main ++ suf)) ∙ h .plain);
@@ -276,7 +274,7 @@ unfolding literal
 found {s} {k} {e} {vs} t f = go (t .parts) (t .text) (t .kind) (t .end) (t .values)
   where
     go : {base : ℕ} {pre main suf : List ℕ} → IntegerParts base pre main suf → s ≡ pre ++ (main ++ suf) → k ≡ 2 → e ≡ length pre + length main
-        → vs ≡ digits base (length pre) e → Found s k e vs
+        → vs ≡ digits (record { base = base; start = length pre; end = e }) → Found s k e vs
     go {base} {pre} {main} {suf} h q k e v =
         rw (v, e, k, q)
         (record {
@@ -373,4 +371,4 @@ pub integer-read : (s : List ℕ) → INTEGER-LITERAL s → (e : ℕ) × (vs : V
 integer-read s i =
     let p = scanned s (integer-iff s .1 i) in
     let e = length (p .pre) + length (p .main) in
-    (e, digits (p .base) (length (p .pre)) e, ap integerRead (p .text) ∙ complete (p .parts))
+    (e, digits (record { base = p .base; start = length (p .pre); end = e }), ap integerRead (p .text) ∙ complete (p .parts))

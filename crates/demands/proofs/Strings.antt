@@ -137,9 +137,9 @@ raw-means C s v x l = is-raw-c-string v l refl
 pub string-found : (k : Allowed) (s : List ℕ) {kind e : ℕ} {vs : Values} → Readable s → stringRead k s ≡ accepted kind e vs → Found s kind e vs
 string-found k s {kind} {e} {vs} f g =
     let r = sound k s g in
-    go (stringValue k s) (r .0) (λ h is. record { hashes = h; values = is; count = counted k s f g; bytes = left k s f g }) (r .1)
+    go (stringValue k s) (r .0) (λ h is. record { marks = record { hashes = h; len = length (stringValue k s) }; values = is; len = refl; count = counted k s f g; bytes = left k s f g }) (r .1)
   where
-    go : (v : List ℕ) → kind ≡ stringKind k → ((h : Rawness) → vs ≡ decoded h (length v) → GivesBytes (stringKind k) s vs v) → Tiled k s v e vs
+    go : (v : List ℕ) → kind ≡ stringKind k → ((h : Rawness) → vs ≡ decoded (record { hashes = h; len = length v }) → GivesBytes (stringKind k) s vs v) → Tiled k s v e vs
         → Found s kind e vs
     go v same gives (as-quoted c x p end is) =
         record {
@@ -167,7 +167,7 @@ module _ (k : Allowed) (s : List ℕ) {v x : List ℕ} (u : Utf8 s) where
   quoted-read l =
       let p = quoted-from k l in (
         length s - length x,
-        decoded notRaw (length v),
+        decoded (record { hashes = notRaw; len = length v }),
         complete k s v (aligned s u) (as-quoted (l .content) x p (start-is (quoted-ends k p)) refl) .0,
       )
 
@@ -175,7 +175,7 @@ module _ (k : Allowed) (s : List ℕ) {v x : List ℕ} (u : Utf8 s) where
   raw-read l =
       let p = raw-parts k l in (
         length s - length x,
-        decoded (raw (l .hashes)) (length v),
+        decoded (record { hashes = raw (l .hashes); len = length v }),
         complete k s v (aligned s u) (as-raw x (l .hashes) p (start-is (raw-ends k p)) refl) .0,
       )
 

@@ -7,7 +7,8 @@ use native.Mathlib.Omega.{arith}
 use native.Mathlib.Nat.{add-sub-cancel-left}
 use lib.ListN.{length, take, drop, length-append}
 use lib.Seq.{drop-append-seam, take-append-seam, take-at}
-use Rattle.err.specs.Outcome.{Values, accepted, truth, digits, ends, value, decoded}
+use Rattle.err.specs.Outcome.{IntegerValues, Values, accepted, truth, digits, ends, value, decoded}
+use Rattle.err.proofs.Values.{digits-same}
 use Rattle.buffer.specs.Buffer.{over}
 use Rattle.utf8.specs.Utf8.{Utf8, Boundary}
 use Rattle.utf8.proofs.Text.{boundary-drop}
@@ -47,12 +48,14 @@ own-read s h =
 -- ---- integers
 
 -- what a reading marks as digits is worth the same by both definitions
-marked-number : (s : List ℕ) {k e base a z : ℕ} → Tiled s k e (digits base a z) → number base (part a z s) ≡ numberIn base (part a z s)
-marked-number s {k} {e} {base} {a} {z} t =
-    let b : base ≡ t .base = let v = t .values in cc in
-    let l : a ≡ length (t .pre) = let v = t .values in cc in
-    let r : z ≡ length (t .pre) + length (t .main) = let v = t .values in let n = t .end in cc in
-    let m : part a z s ≡ t .main =
+marked-number : (s : List ℕ) {k e : ℕ} {d : IntegerValues} → Tiled s k e (digits d)
+    → number (d .base) (part (d .start) (d .end) s) ≡ numberIn (d .base) (part (d .start) (d .end) s)
+marked-number s {k} {e} {d} t =
+    let v = digits-same (t .values) in
+    let b : d .base ≡ t .base = ap (λ (d : IntegerValues). d .base) v in
+    let l : d .start ≡ length (t .pre) = ap (λ (d : IntegerValues). d .start) v in
+    let r : d .end ≡ length (t .pre) + length (t .main) = ap (λ (d : IntegerValues). d .end) v ∙ t .end in
+    let m : part (d .start) (d .end) s ≡ t .main =
     rw (l, r, t .text, add-sub-cancel-left, drop-append-seam, take-append-seam) in
     rw (m, b) (number-is (t .base) (t .main) (base-most (t .parts .prefix)) (t .parts .digits))
 
@@ -123,10 +126,10 @@ worth-fit s x {w = w} h m = fit-bytes s w x (own-read s h .0 .utf8) m (λ v. str
 -- the suffix starts on a boundary
 start-boundary : (s : List ℕ) (e : ℕ) (vs : Values) → OnBoundaries s (offsets e vs) → Boundary s e
 start-boundary s e (truth t) b = b .0
-start-boundary s e (digits base a z) b = b .1 .1 .0
-start-boundary s e (ends i f z) b = b .1 .1 .1 .0
+start-boundary s e (digits d) b = b .1 .1 .0
+start-boundary s e (ends z) b = b .1 .1 .1 .0
 start-boundary s e (value v) b = b .0
-start-boundary s e (decoded r n) b = b .0
+start-boundary s e (decoded v) b = b .0
 
 pub suffix-utf8 : (s x : List ℕ) {k e : ℕ} {vs : Values} {w : Worth} → readAt 0 s ≡ accepted k e vs → Means s w x → Utf8 x
 suffix-utf8 s x {k} {e} {vs} h m =

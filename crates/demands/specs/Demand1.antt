@@ -4,7 +4,7 @@
 --   P × Q, P ⊎ Q      P and Q; P or Q
 --   P → Q, P ↔ Q      if P, then Q; P exactly when Q
 --   P → ⊥, a ≡ b      not P; a and b are equal
---   a ∷ s, [], p .1   the list s with a in front; the empty list; the second part of p, whose first is p .0. λ v. e takes v to e
+--   a ∷ s, []         the list s with a in front; the empty list. p .0, p .1 are the parts of a pair, d .base is the line `base` of a record; λ v. e takes v to e
 --   T b, cond b x y   the test b is true; x where the test b is true, else y
 --   A record holds when all its lines hold. `use` says in which crate and file the other names are defined.
 --   "Assumes nothing" means: uses no unproved axiom.
@@ -126,7 +126,8 @@ pub record ValueAnswers : Type 0 where
 abbrev pub Decodes : ℕ → Type 0
 Decodes code = (k : Allowed) × (code ≡ stringKind k)
 
--- the answers of decoding into a buffer of `room` bytes: a count that fits, is at most the text's length, and at most 65,536; or a refusal
+-- the answers of decoding into a buffer of `room` bytes: a count that fits, is at most the text's length, and at most 65,536; or a refusal.
+-- (`written n` is `returned n`.)
 abbrev pub DecodeAnswered : ℕ → ℕ → Answer ℕ → Type 0
 DecodeAnswered m room (returned n) = (n ≤ room) × (n ≤ m) × (n ≤ 65536)
 DecodeAnswered m room (refusal n p) = Numbered m (42 ∷ 43 ∷ 44 ∷ 48 ∷ []) n p
@@ -174,7 +175,8 @@ pub record SuffixAnswers : Type 0 where
   pub float : (t : FloatType) → floatFromSuffix (floatName t) ≡ floatCode t
   pub no-float : (name : List ℕ) → ((t : FloatType) → name ≡ floatName t → ⊥) → floatFromSuffix name ≡ 0
 
--- the answers of settling, and of measuring where `room` is 65,536: a kind and a length that fits, or a refusal. Never with 42: they take no code
+-- the answers of settling, and of measuring where `room` is 65,536: a kind and a length that fits, or a refusal; never
+-- with 42: they take no code. (`formed k n` is `returned (k, n)`.)
 abbrev pub SettleAnswered : ℕ → ℕ → Answer (ℕ × ℕ) → Type 0
 SettleAnswered m room (returned (k, n)) = (1 ≤ k) × (k ≤ 8) × (n ≤ room) × (n ≤ 65536)
 SettleAnswered m room (refusal n p) = Numbered m (43 ∷ 44 ∷ 45 ∷ 46 ∷ 47 ∷ 48 ∷ []) n p

@@ -12,7 +12,7 @@ use mathlib.Core.Path.{_≡_}
 use mathlib.Core.Logic.{_⊎_, _↔_}
 use mathlib.Core.List.{List}
 use lib.ListN.{length, drop}
-use Rattle.err.specs.Outcome.{Values, accepted, Rawness, truth, digits, ends, value, decoded}
+use Rattle.err.specs.Outcome.{IntegerValues, FloatValues, StringValues, Values, accepted, truth, digits, ends, value, decoded}
 use Rattle.buffer.specs.Buffer.{over}
 use Rattle.boolean.specs.Bool.{boolRead}
 use Rattle.escape.specs.declared.Allowed.{Allowed}
@@ -79,28 +79,25 @@ pub record Demand2Transcribed : Type 0 where
 abbrev pub Takes : ℕ → ℕ → Type 0
 Takes code k = (code ≡ 0) ⊎ (code ≡ k)
 
--- an integer's reading: base and both ends of the digits mark the number n, and the value call gives it at each type, or 45 where it does not fit
+-- an integer's reading: its base and both ends of its digits mark the number n, and the value call gives it at each type, or 45 where it does not fit
 pub record GivesInteger (s : List ℕ) (vs : Values) (n : ℕ) : Type 0 where
-  pub base : ℕ
-  pub start : ℕ
-  pub end : ℕ
-  pub values : vs ≡ digits base start end
-  pub radix : base ≡ radixOf s
-  pub number : numberIn base (part start end s) ≡ n
+  pub marks : IntegerValues
+  pub values : vs ≡ digits marks
+  pub radix : marks .base ≡ radixOf s
+  pub number : numberIn (marks .base) (part (marks .start) (marks .end) s) ≡ n
   pub at-each-type : (code most : ℕ) → ValueType code most → valueAt code s ≡ bounded most n
 
 -- a float's reading: the digits up to the first end, those after a period up to the second, and the exponent after an `e` up to the third
 pub record GivesFloat (s : List ℕ) (vs : Values) (d : Decimal) : Type 0 where
-  pub whole : ℕ
-  pub fraction : ℕ
-  pub end : ℕ
-  pub values : vs ≡ ends whole fraction end
-  pub number : powered (part 0 whole s) (part (whole + 1) fraction s) (part (fraction + 1) end s) ≡ d
+  pub marks : FloatValues
+  pub values : vs ≡ ends marks
+  pub number : powered (part 0 (marks .whole) s) (part (marks .whole + 1) (marks .fraction) s) (part (marks .fraction + 1) (marks .end) s) ≡ d
 
 -- a string's reading holds the value's length, and decoding by its code gives the value's bytes
 pub record GivesBytes (code : ℕ) (s : List ℕ) (vs : Values) (v : List ℕ) : Type 0 where
-  pub hashes : Rawness
-  pub values : vs ≡ decoded hashes (length v)
+  pub marks : StringValues
+  pub values : vs ≡ decoded marks
+  pub len : marks .len ≡ length v
   pub count : (buf : List ℕ) → length v ≤ length buf → decodeAt code s (length buf) ≡ written (length v)
   pub bytes : (buf : List ℕ) → length v ≤ length buf → decodeBuffer code s buf ≡ over v buf
 

@@ -27,13 +27,30 @@ pub data Rawness : Type 0 where
   notRaw : Rawness
   raw : ℕ → Rawness
 
+-- 01: "base and both ends of the digits"
+pub record IntegerValues : Type 0 where
+  pub base : ℕ
+  pub start : ℕ
+  pub end : ℕ
+
+-- 01: "the three float ends": of the integer part, of the fractional part and of the exponent
+pub record FloatValues : Type 0 where
+  pub whole : ℕ
+  pub fraction : ℕ
+  pub end : ℕ
+
+-- 01: "hashes (or not raw) and value length"
+pub record StringValues : Type 0 where
+  pub hashes : Rawness
+  pub len : ℕ
+
 -- 01: "truth; or base and both ends of the digits; or the three float ends; or the value; or hashes (or not raw) and value length"
 pub data Values : Type 0 where
   truth : Bool → Values
-  digits : ℕ → ℕ → ℕ → Values
-  ends : ℕ → ℕ → ℕ → Values
+  digits : IntegerValues → Values
+  ends : FloatValues → Values
   value : ℕ → Values
-  decoded : Rawness → ℕ → Values
+  decoded : StringValues → Values
 
 -- A reading, in document 01's sense: "kind, start of suffix, and" its values; "it is accepted or refused", with a
 -- refusal's number and span.

@@ -3,7 +3,7 @@
 use Prim.Native.Nat.{ℕ}
 use mathlib.Core.List.{List, [], _∷_, _++_}
 use lib.ListN.{take}
-use Rattle.err.specs.Outcome.{Place, none, between, Rawness, notRaw, raw, truth, digits, ends, value, decoded, Outcome, refused, accepted}
+use Rattle.err.specs.Outcome.{Place, none, between, Rawness, notRaw, raw, Values, truth, digits, ends, value, decoded, Outcome, refused, accepted}
 use Rattle.err.specs.Numbers.{numberOf}
 use Rattle.err.specs.declared.Span.{Span}
 use Rattle.err.specs.declared.Span.the-variants.{Nowhere, Between}
@@ -46,15 +46,25 @@ abbrev pub hashesOf : Hashes → Rawness
 hashesOf NotRaw = notRaw
 hashesOf (Raw n) = raw n
 
+-- the values that a literal holds, by its kind
+abbrev pub valuesOfInteger : IntegerLit → Values
+valuesOfInteger i = digits (record { base = baseOf (i .base); start = i .«start_main_part»; end = i .«end_main_part» })
+
+abbrev pub valuesOfFloat : FloatLit → Values
+valuesOfFloat f = ends (record { whole = f .«end_integer_part»; fraction = f .«end_fractional_part»; end = f .«end_number_part» })
+
+abbrev pub valuesOfString : StringLit → Values
+valuesOfString l = decoded (record { hashes = hashesOf (l .hashes); len = l .«value_len» })
+
 -- 01: "Codes 1 to 8 are also the kinds": 1 bool, 2 integer, 3 float, 4 char, 5 string, 6 byte, 7 byte string, 8 C string.
 -- After the kind stands the start of the suffix.
 abbrev pub outcomeOf : Reading → Outcome
 outcomeOf (reading.Refused k s) = refused (numberOf k) (placeOf s)
 outcomeOf (reading.Bool b) = accepted 1 (b .end) (truth (b .value))
-outcomeOf (reading.Integer i) = accepted 2 (i .«end_main_part») (digits (baseOf (i .base)) (i .«start_main_part») (i .«end_main_part»))
-outcomeOf (reading.Float f) = accepted 3 (f .«end_number_part») (ends (f .«end_integer_part») (f .«end_fractional_part») (f .«end_number_part»))
+outcomeOf (reading.Integer i) = accepted 2 (i .«end_main_part») (valuesOfInteger i)
+outcomeOf (reading.Float f) = accepted 3 (f .«end_number_part») (valuesOfFloat f)
 outcomeOf (reading.Char l) = accepted 4 (l .«start_suffix») (value (l .value))
-outcomeOf (reading.String l) = accepted 5 (l .«start_suffix») (decoded (hashesOf (l .hashes)) (l .«value_len»))
+outcomeOf (reading.String l) = accepted 5 (l .«start_suffix») (valuesOfString l)
 outcomeOf (reading.Byte l) = accepted 6 (l .«start_suffix») (value (l .value))
-outcomeOf (reading.ByteString l) = accepted 7 (l .«start_suffix») (decoded (hashesOf (l .hashes)) (l .«value_len»))
-outcomeOf (reading.CString l) = accepted 8 (l .«start_suffix») (decoded (hashesOf (l .hashes)) (l .«value_len»))
+outcomeOf (reading.ByteString l) = accepted 7 (l .«start_suffix») (valuesOfString l)
+outcomeOf (reading.CString l) = accepted 8 (l .«start_suffix») (valuesOfString l)

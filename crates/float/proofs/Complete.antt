@@ -50,7 +50,7 @@ no-sign [] suf d m = absurd (omega arith)
 no-sign (b ∷ ds) suf d m = digit-no-sign b (d .0)
 
 rest-complete : (s : List ℕ) (i f : ℕ) (ex suf : List ℕ) → drop f s ≡ ex ++ suf → Exponent ex → suffixFault suf ≡ 0 → Stops (digit 10) suf
-    → (ex ≡ [] → startsE suf 0 ≡ false) → (i ≡ f + length ex → ⊥) → afterFraction s i f ≡ accepted 3 (f + length ex) (ends i f (f + length ex))
+    → (ex ≡ [] → startsE suf 0 ≡ false) → (i ≡ f + length ex → ⊥) → afterFraction s i f ≡ accepted 3 (f + length ex) (ends (record { whole = i; fraction = f; end = f + length ex }))
 unfolding afterFraction startsE
 rest-complete s i f ex suf h (no-exponent e) o l n m =
     let z : f + length ex ≡ f = omega (arith, ap length e) in
@@ -96,7 +96,7 @@ module _ {whole frac ex suf : List ℕ} (p : FloatParts whole frac ex suf) where
       go (exponent letter sign ds g t s d m) = rw g (e-stops letter (rw g at t) .1)
 
   behind-whole : (s : List ℕ) → drop (length whole) s ≡ frac ++ (ex ++ suf)
-      → afterInteger s (length whole) ≡ accepted 3 (length whole + length frac + length ex) (ends (length whole) (length whole + length frac) (length whole + length frac + length ex))
+      → afterInteger s (length whole) ≡ accepted 3 (length whole + length frac + length ex) (ends (record { whole = length whole; fraction = length whole + length frac; end = length whole + length frac + length ex }))
   behind-whole s h = go (p .fraction)
     where
       i : ℕ
@@ -105,12 +105,12 @@ module _ {whole frac ex suf : List ℕ} (p : FloatParts whole frac ex suf) where
       f : ℕ
       f = length whole + length frac
 
-      rest : afterFraction s i f ≡ accepted 3 (f + length ex) (ends i f (f + length ex))
+      rest : afterFraction s i f ≡ accepted 3 (f + length ex) (ends (record { whole = i; fraction = f; end = f + length ex }))
       rest =
           rest-complete s i f ex suf (behind s i frac (ex ++ suf) h) (p .exponent) (p .suffix) (p .longest) (p .no-e)
           (λ e. p .some (empty frac (omega arith)) (empty ex (omega arith)))
 
-      go : Fraction frac → afterInteger s i ≡ accepted 3 (f + length ex) (ends i f (f + length ex))
+      go : Fraction frac → afterInteger s i ≡ accepted 3 (f + length ex) (ends (record { whole = i; fraction = f; end = f + length ex }))
       go (no-fraction e) =
           let z : f ≡ i = omega (arith, ap length e) in
           no-fraction-from s i (λ y. no-period e (sym (byte-from s i (ex ++ suf) (h ∙ rw e)) ∙ y)) ∙ (ap (afterFraction s i) (sym z) ∙ rest)
@@ -123,7 +123,7 @@ module _ {whole frac ex suf : List ℕ} (p : FloatParts whole frac ex suf) where
 pub complete : {whole frac ex suf : List ℕ} → FloatParts whole frac ex suf
     → let i = length whole in
     let f = i + length frac in
-    floatRead (whole ++ (frac ++ (ex ++ suf))) ≡ accepted 3 (f + length ex) (ends i f (f + length ex))
+    floatRead (whole ++ (frac ++ (ex ++ suf))) ≡ accepted 3 (f + length ex) (ends (record { whole = i; fraction = f; end = f + length ex }))
 unfolding floatRead decDigit classOf
 complete {whole = []} p = clash (p .first) refl
 complete {whole = b ∷ w} {frac} {ex} {suf} p =

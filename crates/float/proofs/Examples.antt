@@ -21,9 +21,9 @@ pub record Examples : Type 0 where
   -- `1e3+x`
   pub fault : floatRead (49 ∷ 101 ∷ 51 ∷ 43 ∷ 120 ∷ []) ≡ refused 2 (between 3 5)
   -- `1.50e1`
-  pub all-parts : floatRead (49 ∷ 46 ∷ 53 ∷ 48 ∷ 101 ∷ 49 ∷ []) ≡ accepted 3 6 (ends 1 4 6)
+  pub all-parts : floatRead (49 ∷ 46 ∷ 53 ∷ 48 ∷ 101 ∷ 49 ∷ []) ≡ accepted 3 6 (ends (record { whole = 1; fraction = 4; end = 6 }))
   -- `2e_3`
-  pub one-digit : floatRead (50 ∷ 101 ∷ 95 ∷ 51 ∷ []) ≡ accepted 3 4 (ends 1 1 4)
+  pub one-digit : floatRead (50 ∷ 101 ∷ 95 ∷ 51 ∷ []) ≡ accepted 3 4 (ends (record { whole = 1; fraction = 1; end = 4 }))
 
 pub examples : Examples
 unfolding only classOf digit suffixRest decDigit startsE suffixStart faultFrom suffixFault notInteger afterNumber signEnd noDigit afterFraction badFraction afterInteger floatRead

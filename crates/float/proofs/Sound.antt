@@ -41,7 +41,7 @@ module _ (k p : ℕ) (v : Values) where
 
   -- what holds where a number that ends at e is accepted
   abbrev Number : List ℕ → ℕ → ℕ → ℕ → Type 0
-  Number s i f e = (suffixFault (drop e s) ≡ 0) × (i ≡ e → ⊥) × (accepted k p v ≡ accepted 3 e (ends i f e))
+  Number s i f e = (suffixFault (drop e s) ≡ 0) × (i ≡ e → ⊥) × (accepted k p v ≡ accepted 3 e (ends (record { whole = i; fraction = f; end = e })))
 
   number-sound : (s : List ℕ) (i f e : ℕ) → afterNumber s i f e ≡ accepted k p v → Number s i f e
   unfolding afterNumber notInteger
@@ -60,7 +60,7 @@ module _ (k p : ℕ) (v : Values) where
     longest : Stops (digit 10) suf
     no-e : ex ≡ [] → startsE suf 0 ≡ false
     more : i ≡ f + length ex → ⊥
-    is : accepted k p v ≡ accepted 3 (f + length ex) (ends i f (f + length ex))
+    is : accepted k p v ≡ accepted 3 (f + length ex) (ends (record { whole = i; fraction = f; end = f + length ex }))
 
   rest-sound : (s : List ℕ) (i f : ℕ) → Stops (digit 10) (drop f s) → afterFraction s i f ≡ accepted k p v → Rest s i f
   unfolding afterFraction startsE

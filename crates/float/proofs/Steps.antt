@@ -70,6 +70,6 @@ no-fraction-from s i h = rw (ne-eqb _ _ h)
 
 -- ---- the suffix
 
-pub number-from : (s : List ℕ) (i f e : ℕ) → suffixFault (drop e s) ≡ 0 → (i ≡ e → ⊥) → afterNumber s i f e ≡ accepted 3 e (ends i f e)
+pub number-from : (s : List ℕ) (i f e : ℕ) → suffixFault (drop e s) ≡ 0 → (i ≡ e → ⊥) → afterNumber s i f e ≡ accepted 3 e (ends (record { whole = i; fraction = f; end = e }))
 unfolding afterNumber notInteger
 number-from s i f e h n = rw (h, ne-eqb i e n)

@@ -42,5 +42,5 @@ module _ {whole frac ex suf : List ℕ} (p : FloatParts whole frac ex suf) (m k 
       }
 
   pub other-number : let e = length m + length (101 ∷ (sign ++ k)) in
-      floatRead (m ++ (101 ∷ (sign ++ (k ++ suf)))) ≡ accepted 3 e (ends (length m) (length m) e)
+      floatRead (m ++ (101 ∷ (sign ++ (k ++ suf)))) ≡ accepted 3 e (ends (record { whole = length m; fraction = length m; end = e }))
   other-number = rw (append-assoc, add-zero) at (complete other-parts)

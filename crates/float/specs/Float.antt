@@ -22,7 +22,7 @@ digitsEnd s at = at + run (digit 10) (drop at s)
 
 -- a literal with neither fraction nor exponent is refused with 40
 unfoldable pub notInteger : ℕ → ℕ → ℕ → Outcome
-notInteger i f e = cond (eqb i e) (refused 40 none) (accepted 3 e (ends i f e))
+notInteger i f e = cond (eqb i e) (refused 40 none) (accepted 3 e (ends (record { whole = i; fraction = f; end = e })))
 
 -- "Suffix faults span to the end."
 unfoldable pub afterNumber : List ℕ → ℕ → ℕ → ℕ → Outcome

@@ -57,4 +57,4 @@ pub record Tiled (s : List ℕ) (k e : ℕ) (v : Values) : Type 0 where
   pub text : s ≡ whole ++ (frac ++ (ex ++ suf))
   pub kind : k ≡ 3
   pub start : e ≡ length whole + length frac + length ex
-  pub values : v ≡ ends (length whole) (length whole + length frac) e
+  pub values : v ≡ ends (record { whole = length whole; fraction = length whole + length frac; end = e })

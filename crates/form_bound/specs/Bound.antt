@@ -13,9 +13,9 @@ boundFits n m have = leb (4 * n + 3 + m) 65536 && leb (4 * n + 3 + m) have
 
 -- a reading of a text s whose form fits for sure: only strings are judged so
 abbrev pub surelyFits : List ℕ → Outcome → ℕ → Bool
-surelyFits s (accepted k e (decoded r n)) have = boundFits n (length s - e) have
+surelyFits s (accepted k e (decoded v)) have = boundFits (v .len) (length s - e) have
 surelyFits s (accepted k e (truth b)) have = false
-surelyFits s (accepted k e (digits b i j)) have = false
-surelyFits s (accepted k e (ends i f j)) have = false
+surelyFits s (accepted k e (digits d)) have = false
+surelyFits s (accepted k e (ends z)) have = false
 surelyFits s (accepted k e (value v)) have = false
 surelyFits s (refused n p) have = false

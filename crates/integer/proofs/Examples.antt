@@ -12,7 +12,7 @@ use Rattle.integer.specs.Integer.{baseAt, prefixLen, mainLen, mainPart, 
 pub record Marked : Type 0 where
   pub no-digits : integerRead (48 ∷ 120 ∷ []) ≡ refused 6 (between 2 2)
   pub starting-with-e : integerRead (48 ∷ 98 ∷ 49 ∷ 101 ∷ []) ≡ refused 41 (between 1 2)
-  pub hexadecimal : integerRead (48 ∷ 120 ∷ 95 ∷ 49 ∷ 70 ∷ []) ≡ accepted 2 5 (digits 16 2 5)
+  pub hexadecimal : integerRead (48 ∷ 120 ∷ 95 ∷ 49 ∷ 70 ∷ []) ≡ accepted 2 5 (digits (record { base = 16; start = 2; end = 5 }))
 
 pub marked : Marked
 unfolding only classOf digit suffixRest decDigit startsE suffixStart faultFrom suffixFault baseAt prefixLen mainLen mainPart afterSuffix afterDigits integerOf integerAt integerRead

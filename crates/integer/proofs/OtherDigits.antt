@@ -62,5 +62,5 @@ other-parts {suf = suf} p d h l u =
     longest [] p = tt
     longest (b ∷ suf) p = suffix-start p .1 .1 .1 .1
 
-pub other-digits : {base : ℕ} {pre main suf : List ℕ} → IntegerParts base pre main suf → (d : List ℕ) → All decDigit d → 0 < length d → Unprefixed d suf → integerRead (d ++ suf) ≡ accepted 2 (length d) (digits 10 0 (length d))
+pub other-digits : {base : ℕ} {pre main suf : List ℕ} → IntegerParts base pre main suf → (d : List ℕ) → All decDigit d → 0 < length d → Unprefixed d suf → integerRead (d ++ suf) ≡ accepted 2 (length d) (digits (record { base = 10; start = 0; end = length d }))
 other-digits p d h l u = complete (other-parts p d h l u) ∙ rw zero-add

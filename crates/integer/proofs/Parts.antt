@@ -9,7 +9,8 @@ use borrow.Author.Tests.{ne-eqb}
 use lib.Dec.{eqb}
 use lib.ListN.{length, getD, take, drop, length-append, take-append-drop, List·getD-append}
 use lib.Seq.{length-take-le, take-append-seam, drop-append-seam, drop-append-add, drop-drop}
-use Rattle.err.specs.Outcome.{Values, accepted, digits}
+use Rattle.err.specs.Outcome.{IntegerValues, Values, accepted, digits}
+use Rattle.err.proofs.Values.{digits-same}
 use Rattle.scan.specs.Run.{run}
 use Rattle.scan.specs.Sets.{only}
 use Rattle.scan.proofs.Cases.{cond-in, cond-eq}
@@ -84,7 +85,7 @@ module _ {base : ℕ} {pre main suf : List ℕ} (h : IntegerParts base pre main 
   unfolding mainPart
   main-part = rw (main-len, h .plain, prefix-length (h .prefix), drop-append-seam, take-append-seam)
 
-  of-parts : integerOf (pre ++ (main ++ suf)) base (length pre) (length main) ≡ accepted 2 (length pre + length main) (digits base (length pre) (length pre + length main))
+  of-parts : integerOf (pre ++ (main ++ suf)) base (length pre) (length main) ≡ accepted 2 (length pre + length main) (digits (record { base = base; start = length pre; end = length pre + length main }))
   unfolding integerOf afterSuffix afterDigits
   of-parts =
       rw (← e-behind (pre ++ (main ++ suf)) (length pre + length main), drop-append-add, drop-append-seam main suf, h .suffix, h .no-e, drop-append-seam, take-append-seam, ne-eqb (run (only 95) main) (length main) (λ e. omega (arith, h .some)))
@@ -92,15 +93,16 @@ module _ {base : ℕ} {pre main suf : List ℕ} (h : IntegerParts base pre main 
   first-digit : decDigit (getD (pre ++ (main ++ suf)) 0 0) ≡ true
   first-digit = rw (← append-assoc, List·getD-append (pre ++ main) suf 0 0 (omega (arith, h .some, length-append pre main))) (h .first)
 
-  pub complete : integerRead (pre ++ (main ++ suf)) ≡ accepted 2 (length pre + length main) (digits base (length pre) (length pre + length main))
+  pub complete : integerRead (pre ++ (main ++ suf)) ≡ accepted 2 (length pre + length main) (digits (record { base = base; start = length pre; end = length pre + length main }))
   unfolding integerAt
   complete = sym (read-digit _ first-digit) ∙ rw (main-len, h .plain, prefix-length (h .prefix)) of-parts
 
 -- ---- the ends of the digits
 
-pub read-ends : (s : List ℕ) {k n base a e : ℕ} → integerRead s ≡ accepted k n (digits base a e) → (a ≤ e) × (e ≤ length s)
-read-ends s {k} {n} {base} {a} {e} h =
-    let t = sound s k n (digits base a e) h in
-    let p : a ≡ length (t .pre) = cc (t .values) in
-    let q : e ≡ n = cc (t .values) in
+pub read-ends : (s : List ℕ) {k n : ℕ} {d : IntegerValues} → integerRead s ≡ accepted k n (digits d) → (d .start ≤ d .end) × (d .end ≤ length s)
+read-ends s {k} {n} {d} h =
+    let t = sound s k n (digits d) h in
+    let v = digits-same (t .values) in
+    let p : d .start ≡ length (t .pre) = ap (λ (d : IntegerValues). d .start) v in
+    let q : d .end ≡ n = ap (λ (d : IntegerValues). d .end) v in
     (omega (arith, t .end), rw (t .text) (omega (arith, t .end, length-append (t .pre) (t .main ++ t .suf), length-append (t .main) (t .suf))))

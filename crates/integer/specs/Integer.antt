@@ -69,7 +69,7 @@ unfoldable pub integerOf : List ℕ → ℕ → ℕ → ℕ → Outcome
 integerOf s base start n =
     afterSuffix s (start + n)
     (afterDigits s start (start + n) n
-    (accepted 2 (start + n) (digits base start (start + n))))
+    (accepted 2 (start + n) (digits (record { base = base; start = start; end = start + n }))))
 
 -- of a text whose first byte is a decimal digit
 unfoldable pub integerAt : List ℕ → Outcome

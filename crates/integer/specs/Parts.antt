@@ -45,7 +45,7 @@ pub record Tiled (s : List ℕ) (k e : ℕ) (v : Values) : Type 0 where
   pub text : s ≡ pre ++ (main ++ suf)
   pub kind : k ≡ 2
   pub end : e ≡ length pre + length main
-  pub values : v ≡ digits base (length pre) e
+  pub values : v ≡ digits (record { base = base; start = length pre; end = e })
 
 -- decimal digits and the suffix after them do not start with a prefix: no zero comes first, or a second digit follows, or the
 -- suffix starts with none of b, o, x

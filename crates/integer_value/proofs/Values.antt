@@ -1,6 +1,6 @@
 -- The value of a text by its parts and by its reading.
 -- Assumes nothing.
-use mathlib.Core.Path.{_≡_, refl}
+use mathlib.Core.Path.{_≡_, refl, ap}
 use mathlib.Core.Bool.{Bool, true, false, cond}
 use mathlib.Core.List.{List, [], _∷_, _++_}
 use Prim.Native.Nat.{ℕ, zero, suc, _+_, _-_}
@@ -8,7 +8,8 @@ use native.Mathlib.Nat.{sub-zero, zero-sub, suc-sub-suc}
 use lib.Dec.{leb}
 use lib.ListN.{length, take, drop}
 use lib.Seq.{slice, take-nil, take-append-add, take-append-seam, drop-append-seam}
-use Rattle.err.specs.Outcome.{accepted, none, digits}
+use Rattle.err.specs.Outcome.{IntegerValues, accepted, none, digits}
+use Rattle.err.proofs.Values.{digits-same}
 use Rattle.integer.specs.Integer.{integerRead}
 use Rattle.integer.specs.Parts.{IntegerParts}
 use Rattle.integer.proofs.Parts.{sound, complete, main-part}
@@ -42,10 +43,14 @@ value-of-parts largest h = rw (complete h, main-part h, h .plain)
 
 -- ---- by a reading
 
-pub read-value : (largest : ℕ) (s : List ℕ) {k n base a e : ℕ} → integerRead s ≡ accepted k n (digits base a e) → bounded largest (number base (slice a e s)) ≡ integerLitValue largest s
-read-value largest s {k} {n} {base} {a} {e} h =
-    let t = sound s k n (digits base a e) h in
-    cc (t .values, t .end, t .text, slice-main (t .pre) (t .main) (t .suf), value-of-parts largest (t .parts))
+pub read-value : (largest : ℕ) (s : List ℕ) {k n : ℕ} {d : IntegerValues} → integerRead s ≡ accepted k n (digits d) → bounded largest (number (d .base) (slice (d .start) (d .end) s)) ≡ integerLitValue largest s
+read-value largest s {k} {n} {d} h =
+    let t = sound s k n (digits d) h in
+    let v = digits-same (t .values) in
+    let b : d .base ≡ t .base = ap (λ (d : IntegerValues). d .base) v in
+    let p : d .start ≡ length (t .pre) = ap (λ (d : IntegerValues). d .start) v in
+    let q : d .end ≡ n = ap (λ (d : IntegerValues). d .end) v in
+    cc (b, p, q, t .end, t .text, slice-main (t .pre) (t .main) (t .suf), value-of-parts largest (t .parts))
   where
     slice-main : (pre main suf : List ℕ) → slice (length pre) (length pre + length main) (pre ++ (main ++ suf)) ≡ main
     slice-main pre main suf = rw (take-append-add, take-append-seam, drop-append-seam)

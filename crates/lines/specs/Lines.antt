@@ -35,10 +35,10 @@ hashesPiece (raw n) = numberPiece n
 -- and ` VALUE`; ` HASHES LENGTH`
 abbrev pub valuesPiece : Values → List ℕ
 valuesPiece (truth t) = numberPiece (cond t 1 0)
-valuesPiece (digits base a e) = numberPiece base ++ (numberPiece a ++ numberPiece e)
-valuesPiece (ends i f e) = numberPiece i ++ (numberPiece f ++ numberPiece e)
+valuesPiece (digits d) = numberPiece (d .base) ++ (numberPiece (d .start) ++ numberPiece (d .end))
+valuesPiece (ends z) = numberPiece (z .whole) ++ (numberPiece (z .fraction) ++ numberPiece (z .end))
 valuesPiece (value v) = numberPiece v
-valuesPiece (decoded hashes n) = hashesPiece hashes ++ numberPiece n
+valuesPiece (decoded v) = hashesPiece (v .hashes) ++ numberPiece (v .len)
 
 abbrev pub hexes : List ℕ → List ℕ
 hexes [] = []

@@ -11,8 +11,8 @@ ghost use mathlib.Core.List.{_++_};
 ghost use Prim.Native.Nat.{_+_, _*_, _≤_};
 ghost use lib.ListN.{length, drop};
 ghost use Rattle.err.specs.Numbers.{numberOf};
-ghost use Rattle.err.specs.Reading.{placeOf, hashesOf, outcomeOf};
-ghost use Rattle.err.specs.Outcome.{accepted, decoded};
+ghost use Rattle.err.specs.Reading.{placeOf, hashesOf, valuesOfString, outcomeOf};
+ghost use Rattle.err.specs.Outcome.{accepted};
 ghost use Rattle.buffer.specs.Buffer.{Wrote};
 ghost use Rattle.lines.specs.Lines.{Added, numberPiece, placePiece, hashesPiece, hexes, hexPiece, kept, keptPiece, refusalLine, okLine, kindLine, readingLine};
 
@@ -99,7 +99,7 @@ fn add_hashes(line: &mut [u8], at: usize, hashes: Hashes) -> usize
 // The line of a string, a byte string or a C string.
 fn put_string(line: &mut [u8], kind: u64, l: StringLit) -> usize
     requires { ⌜ 128 ≤ length (now line) ⌝ }
-    ensures { λ r. ⌜ Wrote (readingLine (accepted kind (l .«start_suffix») (decoded (hashesOf (l .hashes)) (l .«value_len»)))) r (now (line .entry)) (now (line .exit)) × (r ≤ 107) ⌝ }
+    ensures { λ r. ⌜ Wrote (readingLine (accepted kind (l .«start_suffix») (valuesOfString l))) r (now (line .entry)) (now (line .exit)) × (r ≤ 107) ⌝ }
 {
     let at = put_kind(line, kind, l.start_suffix);
     let hashes = l.hashes;

@@ -12,9 +12,9 @@ use denote.Enum.Declared.{tagOf}
 use lib.Dec.{eqb}
 use lib.ListN.{length}
 use lib.Seq.{slice}
-use Rattle.err.specs.Outcome.{Values, digits, decoded, Outcome, refused, accepted, none}
+use Rattle.err.specs.Outcome.{IntegerValues, Values, digits, Outcome, refused, accepted, none}
 use Rattle.err.specs.Numbers.{numberOf}
-use Rattle.err.specs.Reading.{placeOf, hashesOf, outcomeOf}
+use Rattle.err.specs.Reading.{placeOf, valuesOfString, outcomeOf}
 use Rattle.err.specs.declared.Reading.{Reading}
 use Rattle.err.specs.declared.Reading.the-variants as reading
 use Rattle.err.proofs.Reading.{the-type}
@@ -74,17 +74,17 @@ module _ (most : ℕ) (s : List ℕ) where
   value-refused (reading.ByteString l) h o = absurd (omega (arith, read-kind 2 s (omega arith) (sym h)))
   value-refused (reading.CString l) h o = absurd (omega (arith, read-kind 2 s (omega arith) (sym h)))
 
-  module _ {k n base a e : ℕ} (is : readAt 2 s ≡ accepted k n (digits base a e)) where
-    integer-is : integerRead s ≡ accepted k n (digits base a e)
+  module _ {k n : ℕ} {d : IntegerValues} (is : readAt 2 s ≡ accepted k n (digits d)) where
+    integer-is : integerRead s ≡ accepted k n (digits d)
     unfolding entryRead
     integer-is = read-passed 2 s is .3
 
     -- the digits stand inside the text
-    pub value-ends : (a ≤ e) × (e ≤ length s)
+    pub value-ends : (d .start ≤ d .end) × (d .end ≤ length s)
     value-ends = read-ends s integer-is
 
     -- and give the value
-    pub value-given : bounded most (number base (slice a e s)) ≡ checkedValue most s
+    pub value-given : bounded most (number (d .base) (slice (d .start) (d .end) s)) ≡ checkedValue most s
     unfolding checkedValue
     value-given = let p = read-passed 2 s is in rw (no-fault s (p .1) (p .2)) (read-value most s integer-is)
 
@@ -118,7 +118,7 @@ kind-number C = (omega arith, λ e. absurd (omega arith))
 
 -- what a reading of a string is, by the literal or the refusal that it holds
 abbrev pub held : ℕ → Quoted → Outcome
-held k (quoted.Lit l) = accepted k (l .«start_suffix») (decoded (hashesOf (l .hashes)) (l .«value_len»))
+held k (quoted.Lit l) = accepted k (l .«start_suffix») (valuesOfString l)
 held k (quoted.Refused n p) = refused (numberOf n) (placeOf p)
 
 module _ (code : ℕ) (k : Allowed) (s : List ℕ) (coded : kindCoded code ≡ found.Kind k) where

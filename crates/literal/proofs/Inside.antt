@@ -91,7 +91,7 @@ entry-inside (suc code) s u l h = kind-inside s u (suc code) (omega arith) l h
 -- the suffix starts inside the text
 pub start-inside : (s : List ℕ) (e : ℕ) (vs : Values) → OnBoundaries s (offsets e vs) → e ≤ length s
 start-inside s e (truth t) b = boundary-le s e (b .0)
-start-inside s e (digits base a z) b = boundary-le s e (b .1 .1 .0)
-start-inside s e (ends i f z) b = boundary-le s e (b .1 .1 .1 .0)
+start-inside s e (digits d) b = boundary-le s e (b .1 .1 .0)
+start-inside s e (ends z) b = boundary-le s e (b .1 .1 .1 .0)
 start-inside s e (value v) b = boundary-le s e (b .0)
-start-inside s e (decoded r n) b = boundary-le s e (b .0)
+start-inside s e (decoded v) b = boundary-le s e (b .0)

@@ -31,12 +31,12 @@ pub byte-closed : (s : List ℕ) {k e : ℕ} {vs : Values} → byteRead s ≡ ac
 byte-closed s h = let t = byte-sound s h in (quote-closed Byte s (t .3), t .0, t .2)
 
 pub string-closed : (k : Allowed) (s : List ℕ) {kind e : ℕ} {vs : Values} → stringRead k s ≡ accepted kind e vs
-    → Closed s e × (r : Rawness) × (n : ℕ) × (vs ≡ decoded r n) × (n ≤ length s)
+    → Closed s e × (r : Rawness) × (n : ℕ) × (vs ≡ decoded (record { hashes = r; len = n })) × (n ≤ length s)
 string-closed k s {kind} {e} {vs} h = let v = by-parts tiled in (ends-ascii k s (stringValue k s) tiled, v .0, v .1, v .2, v .3)
   where
     tiled : string.Tiled k s (stringValue k s) e vs
     tiled = sound k s h .1
 
-    by-parts : string.Tiled k s (stringValue k s) e vs → (r : Rawness) × (n : ℕ) × (vs ≡ decoded r n) × (n ≤ length s)
+    by-parts : string.Tiled k s (stringValue k s) e vs → (r : Rawness) × (n : ℕ) × (vs ≡ decoded (record { hashes = r; len = n })) × (n ≤ length s)
     by-parts (string.as-quoted content suf p q is) = (notRaw, length (stringValue k s), is, value-short k s h)
     by-parts (string.as-raw suf hs p q is) = (raw hs, length (stringValue k s), is, value-short k s h)

@@ -8,10 +8,10 @@ use Rattle.utf8.specs.Utf8.{Boundary}
 -- the offsets that a reading names, in their order: where its parts start or end, and the start of its suffix, e
 abbrev pub offsets : ℕ → Values → List ℕ
 offsets e (truth t) = e ∷ []
-offsets e (digits base a z) = a ∷ z ∷ e ∷ []
-offsets e (ends i f z) = i ∷ f ∷ z ∷ e ∷ []
+offsets e (digits d) = d .start ∷ d .end ∷ e ∷ []
+offsets e (ends z) = z .whole ∷ z .fraction ∷ z .end ∷ e ∷ []
 offsets e (value v) = e ∷ []
-offsets e (decoded r n) = e ∷ []
+offsets e (decoded v) = e ∷ []
 
 -- each offset is inside the text and on a character boundary
 abbrev pub OnBoundaries : List ℕ → List ℕ → Type 0
@@ -27,7 +27,7 @@ Rising (a ∷ b ∷ offs) = (a ≤ b) × Rising (b ∷ offs)
 -- of a text of m bytes: its decoded value is no longer
 abbrev pub NoLonger : ℕ → Values → Type 0
 NoLonger m (truth t) = Unit {0}
-NoLonger m (digits base a z) = Unit {0}
-NoLonger m (ends i f z) = Unit {0}
+NoLonger m (digits d) = Unit {0}
+NoLonger m (ends z) = Unit {0}
 NoLonger m (value v) = Unit {0}
-NoLonger m (decoded r n) = n ≤ m
+NoLonger m (decoded v) = v .len ≤ m

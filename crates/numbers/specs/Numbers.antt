@@ -3,8 +3,8 @@
 use Prim.Native.Nat.{ℕ}
 use mathlib.Core.Bool.{Bool, true, false}
 use mathlib.Core.List.{List, [], _∷_}
-use Rattle.err.specs.Outcome.{Place, none, between, notRaw, raw, Values, truth, digits, ends, value, decoded, Outcome, refused, accepted}
-use Rattle.err.specs.Reading.{hashesOf}
+use Rattle.err.specs.Outcome.{Place, none, between, Rawness, notRaw, raw, Values, truth, digits, ends, value, decoded, Outcome, refused, accepted}
+use Rattle.err.specs.Reading.{valuesOfString}
 use Rattle.err.specs.declared.StringLit.{StringLit}
 
 -- 01: "A reading holds kind, start of suffix": the kind of an accepted one, else 0; serves contracts between functions
@@ -27,15 +27,19 @@ abbrev pub truthNumber : Bool → ℕ
 truthNumber true = 1
 truthNumber false = 0
 
--- a reading's values as three numbers, zeros behind them: truth; base and both ends of the digits; the three ends; the value; whether raw, hashes,
+-- whether raw, hashes, and a length
+abbrev pub hashNumbers : Rawness → ℕ → List ℕ
+hashNumbers notRaw n = 0 ∷ 0 ∷ n ∷ []
+hashNumbers (raw h) n = 1 ∷ h ∷ n ∷ []
+
+-- a reading's values as three numbers, zeros after them: truth; base and both ends of the digits; the three ends; the value; whether raw, hashes,
 -- length of the value
 abbrev pub valueNumbers : Values → List ℕ
 valueNumbers (truth b) = truthNumber b ∷ 0 ∷ 0 ∷ []
-valueNumbers (digits base a e) = base ∷ a ∷ e ∷ []
-valueNumbers (ends i f e) = i ∷ f ∷ e ∷ []
+valueNumbers (digits d) = d .base ∷ d .start ∷ d .end ∷ []
+valueNumbers (ends z) = z .whole ∷ z .fraction ∷ z .end ∷ []
 valueNumbers (value v) = v ∷ 0 ∷ 0 ∷ []
-valueNumbers (decoded notRaw n) = 0 ∷ 0 ∷ n ∷ []
-valueNumbers (decoded (raw h) n) = 1 ∷ h ∷ n ∷ []
+valueNumbers (decoded v) = hashNumbers (v .hashes) (v .len)
 
 -- a reading as five numbers: kind, start of suffix and values; or 0, the refusal number and the span
 abbrev pub readingNumbers : Outcome → List ℕ
@@ -44,4 +48,4 @@ readingNumbers (accepted k e vs) = k ∷ e ∷ valueNumbers vs
 
 -- the same of a literal of a string's kind
 abbrev pub stringNumbers : ℕ → StringLit → List ℕ
-stringNumbers k l = readingNumbers (accepted k (l .«start_suffix») (decoded (hashesOf (l .hashes)) (l .«value_len»)))
+stringNumbers k l = readingNumbers (accepted k (l .«start_suffix») (valuesOfString l))

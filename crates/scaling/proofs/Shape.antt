@@ -9,7 +9,8 @@ use native.Mathlib.Omega.{arith}
 use lib.ListN.{length, take, drop, length-append}
 use lib.Seq.{take-at, drop-at}
 use borrow.Author.Tests.{ne-eqb, ltb-true}
-use Rattle.err.specs.Outcome.{accepted, ends}
+use Rattle.err.specs.Outcome.{FloatValues, accepted, ends}
+use Rattle.err.proofs.Values.{ends-same}
 use Rattle.scan.specs.Run.{All}
 use Rattle.scan.proofs.Cases.{cond-in}
 use Rattle.parse.specs.Class.{classOf}
@@ -138,11 +139,12 @@ tiled w b x c h fr ex e q = record {
     frac = part-at w b (x ++ c) (length w) (length w + length b) refl refl
 
 -- what a float's reading says of its text
-pub shape : (s : List ℕ) (i f e : ℕ) → floatRead s ≡ accepted 3 e (ends i f e) → Shape s i f e
+pub shape : (s : List ℕ) (i f e : ℕ) → floatRead s ≡ accepted 3 e (ends (record { whole = i; fraction = f; end = e })) → Shape s i f e
 shape s i f e h =
-    let t = sound s 3 e (ends i f e) h in
+    let t = sound s 3 e (ends (record { whole = i; fraction = f; end = e })) h in
     let p = t .parts in
-    placed (t .whole) (t .frac) (t .ex) (t .suf) (t .text) (cc (t .values)) (cc (t .values))
+    let v = ends-same (t .values) in
+    placed (t .whole) (t .frac) (t .ex) (t .suf) (t .text) (ap (λ (z : FloatValues). z .whole) v) (ap (λ (z : FloatValues). z .fraction) v)
     (tiled (t .whole) (t .frac) (t .ex) (t .suf) (p .digits) (p .fraction) (p .exponent) e (t .start))
   where
     placed : (w b x c : List ℕ) → s ≡ w ++ (b ++ (x ++ c)) → i ≡ length w → f ≡ length w + length b

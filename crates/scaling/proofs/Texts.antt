@@ -33,7 +33,7 @@ exponent-there f e s =
     cond-lt (λ (k : ℕ). part k e s ≡ part (f + 1) e s) f e (λ l. refl)
     (λ l. let p : e - f ≡ 0 = omega arith in let q : e - (f + 1) ≡ 0 = omega arith in rw (p, q))
 
-module _ (s : List ℕ) (i f e : ℕ) (fits : length s ≤ 65536) (read : floatRead s ≡ accepted 3 e (ends i f e)) where
+module _ (s : List ℕ) (i f e : ℕ) (fits : length s ≤ 65536) (read : floatRead s ≡ accepted 3 e (ends (record { whole = i; fraction = f; end = e }))) where
   is : Shape s i f e
   is = shape s i f e read
 

@@ -6,7 +6,8 @@ use mathlib.Core.List.{List}
 use Prim.Native.Nat.{ℕ, _+_, _-_, _≤_, _<_}
 use lib.Dec.{leb, ltb}
 use lib.ListN.{length, take, drop}
-use Rattle.err.specs.Outcome.{accepted, ends}
+use Rattle.err.specs.Outcome.{accepted}
+use Rattle.err.specs.Reading.{valuesOfFloat}
 use Rattle.err.specs.declared.FloatLit.{FloatLit}
 use Rattle.scan.specs.Run.{run}
 use Rattle.buffer.specs.Digits.{decimal}
@@ -35,7 +36,7 @@ decimalOf s l = floatAt s (l .«end_integer_part») (l .«end_fractional_part»)
 abbrev pub FloatOf : List ℕ → FloatLit → Type 0
 FloatOf s l =
     (length s ≤ 65536)
-    × (floatRead s ≡ accepted 3 (l .«end_number_part») (ends (l .«end_integer_part») (l .«end_fractional_part») (l .«end_number_part»)))
+    × (floatRead s ≡ accepted 3 (l .«end_number_part») (valuesOfFloat l))
 
 -- no exponent that is above 2,000,000 can be mended by the 65,536 digits of a text; all of them are told as one
 unfoldable pub capped : ℕ → ℕ

@@ -92,13 +92,13 @@ module _ (k : Allowed) (s v : List ℕ) (e : ℕ) (vs : Values) where
 
   -- a body that closes, with a good suffix after it
   closed : (r : Rawness) (offset n : ℕ) (b : Body) (suf : List ℕ) → b ≡ record { at = n; value = v; end = close }
-      → drop (offset + n + closing r) s ≡ suf → suffixFault suf ≡ 0 → e ≡ offset + n + closing r → vs ≡ decoded r (length v)
+      → drop (offset + n + closing r) s ≡ suf → suffixFault suf ≡ 0 → e ≡ offset + n + closing r → vs ≡ decoded (record { hashes = r; len = length v })
       → ofQuote k (afterBody s r offset b) ≡ accepted (stringKind k) e vs
   closed r offset n b suf is rest good end values =
       rw (is, ← suffix-good s r (offset + n + closing r) (length v) _ refl (ap suffixFault rest ∙ good), end, values)
 
   quoted-complete : (content suf : List ℕ) → Aligned s → QuotedParts k s content v suf → e + length suf ≡ length s
-      → vs ≡ decoded notRaw (length v) → Complete
+      → vs ≡ decoded (record { hashes = notRaw; len = length v }) → Complete
   unfolding stringOf
   quoted-complete content suf al parts end values =
       let o : ℕ = offsetOf k in
@@ -113,7 +113,7 @@ module _ (k : Allowed) (s v : List ℕ) (e : ℕ) (vs : Values) where
       (closed notRaw o (length content) (body k (drop o s)) suf b rest (parts .suffix) (omega (arith, length-append content (34 ∷ suf))) values)
       (ap (λ (x : Body). x .value) b)
 
-  raw-complete : (suf : List ℕ) (h : ℕ) → RawParts k s v suf h → e + length suf ≡ length s → vs ≡ decoded (raw h) (length v) → Complete
+  raw-complete : (suf : List ℕ) (h : ℕ) → RawParts k s v suf h → e + length suf ≡ length s → vs ≡ decoded (record { hashes = raw h; len = length v }) → Complete
   raw-complete suf h parts end values =
       let o : ℕ = offsetOf k in
       let d : List ℕ = v ++ (34 ∷ (hashes h ++ suf)) in

@@ -56,10 +56,10 @@ Literal k s v (raw h) n e = RawLit k s v h n
 
 -- what holds of an accepted outcome
 abbrev pub Accepts : (Rawness → ℕ → ℕ → Type 0) → Outcome → Type 0
-Accepts P (accepted kind e (decoded r n)) = P r n e
+Accepts P (accepted kind e (decoded v)) = P (v .hashes) (v .len) e
 Accepts P (accepted kind e (truth b)) = Unit {0}
-Accepts P (accepted kind e (digits b m n)) = Unit {0}
-Accepts P (accepted kind e (ends l m n)) = Unit {0}
+Accepts P (accepted kind e (digits d)) = Unit {0}
+Accepts P (accepted kind e (ends z)) = Unit {0}
 Accepts P (accepted kind e (value n)) = Unit {0}
 Accepts P (refused n p) = Unit {0}
 
@@ -155,7 +155,7 @@ literal k [] = tt
 literal k (b ∷ s) = by-opening k (b ∷ s) (openingAt k (b ∷ s)) (opening-inside k (b ∷ s))
 
 -- of a literal that was read
-pub read-is : (k : Allowed) (s : List ℕ) {kind e : ℕ} {r : Rawness} {n : ℕ} → stringRead k s ≡ accepted kind e (decoded r n) → Literal k s (stringValue k s) r n e
+pub read-is : (k : Allowed) (s : List ℕ) {kind e : ℕ} {r : Rawness} {n : ℕ} → stringRead k s ≡ accepted kind e (decoded (record { hashes = r; len = n })) → Literal k s (stringValue k s) r n e
 read-is k s g = rw g at (literal k s)
 
 -- ---- the value's length
@@ -165,7 +165,7 @@ module _ (k : Allowed) (s : List ℕ) where
   counted notRaw n e l = l .count
   counted (raw h) n e l = l .count
 
-  pub value-length : {kind e : ℕ} {r : Rawness} {n : ℕ} → stringRead k s ≡ accepted kind e (decoded r n) → n ≡ length (stringValue k s)
+  pub value-length : {kind e : ℕ} {r : Rawness} {n : ℕ} → stringRead k s ≡ accepted kind e (decoded (record { hashes = r; len = n })) → n ≡ length (stringValue k s)
   value-length {e = e} {r = r} {n = n} g = counted r n e (read-is k s g)
 
 -- ---- where the value stands

@@ -68,7 +68,7 @@ record Ended (k : Allowed) (s : List ℕ) (r : Rawness) (at len : ℕ) (why : En
   closes : why ≡ close
   is-kind : kind ≡ stringKind k
   start : e ≡ at + closing r
-  values : vs ≡ decoded r len
+  values : vs ≡ decoded (record { hashes = r; len = len })
   suffix : suffixFault (drop (at + closing r) s) ≡ 0
 
 quote-there : (l : List ℕ) (at : ℕ) → getD l at 0 ≡ 34 → at < length l

@@ -42,5 +42,5 @@ pub record RawParts (k : Allowed) (s v suf : List ℕ) (h : ℕ) : Type 0 where
 
 -- a reading with the suffix at e and the values vs, and the decoded bytes v, are those of the parts that make up the text
 pub data Tiled (k : Allowed) (s v : List ℕ) (e : ℕ) (vs : Values) : Type 0 where
-  as-quoted : (content suf : List ℕ) → QuotedParts k s content v suf → e + length suf ≡ length s → vs ≡ decoded notRaw (length v) → Tiled k s v e vs
-  as-raw : (suf : List ℕ) (h : ℕ) → RawParts k s v suf h → e + length suf ≡ length s → vs ≡ decoded (raw h) (length v) → Tiled k s v e vs
+  as-quoted : (content suf : List ℕ) → QuotedParts k s content v suf → e + length suf ≡ length s → vs ≡ decoded (record { hashes = notRaw; len = length v }) → Tiled k s v e vs
+  as-raw : (suf : List ℕ) (h : ℕ) → RawParts k s v suf h → e + length suf ≡ length s → vs ≡ decoded (record { hashes = raw h; len = length v }) → Tiled k s v e vs

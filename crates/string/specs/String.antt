@@ -50,7 +50,7 @@ startFault C = refused 34 none
 
 -- what is read of a body, as one of the kind
 abbrev pub ofQuote : Allowed → Quote → Outcome
-ofQuote k (quote.quoted r start len) = accepted (stringKind k) start (decoded r len)
+ofQuote k (quote.quoted r start len) = accepted (stringKind k) start (decoded (record { hashes = r; len = len }))
 ofQuote k (quote.refused n p) = refused n p
 
 -- document 01's numbers and values for each case
