@@ -14,9 +14,9 @@ all: lib
 	cp target/bin/keybasket dist/keybasket
 
 lib:
-	rt staticlib desk
+	rt staticlib c_api
 	mkdir -p dist
-	cp target/staticlib/libdesk.a dist/libkeybasket.a
+	cp target/staticlib/libc_api.a dist/libkeybasket.a
 	cp include/keybasket.h dist/keybasket.h
 
 install: all

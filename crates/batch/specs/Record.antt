@@ -6,7 +6,7 @@ use mathlib.Core.Bool.{Bool, true, false}
 use mathlib.Core.List.{List, _++_}
 use lib.ListN.{getD, take, drop}
 use Rattle.buffer.specs.Buffer.{over}
-use Rattle.answers.specs.Records.{recordLine, recordBuffer}
+use Rattle.batch_record.specs.Records.{recordLine, recordBuffer}
 
 -- "little-endian", four bytes: at 2 "the length of the lent buffer", at 6 "the length of the text"
 unfoldable pub numberAt : List ℕ → ℕ → ℕ
@@ -25,7 +25,7 @@ abbrev pub Recorded : Bool → List ℕ → List ℕ → List ℕ → List ℕ �
 Recorded true head text before after = after ≡ over (headLine head (take (numberAt head 6) text)) before
 Recorded false head text before after = after ≡ before
 
--- likewise what the buffer for decoded bytes and forms holds
+-- where another record may follow, what the buffer for decoded bytes and forms holds is what that record leaves; else what it held
 abbrev pub Lent : Bool → List ℕ → List ℕ → List ℕ → List ℕ → Type 0
 Lent true head text before after = after ≡ headBuffer head (take (numberAt head 6) text) before
 Lent false head text before after = after ≡ before

@@ -8,7 +8,8 @@ ghost use lib.ListN.{length};
 ghost use Rattle.buffer.specs.Buffer.{over};
 ghost use Rattle.batch.specs.Record.{numberAt, headLine, headBuffer, Recorded, Lent};
 
-fn wide(x: u8) -> usize
+// A byte as a usize.
+fn widen(x: u8) -> usize
     ensures { λ r. ⌜ (r ≡ x) × (r < 256) ⌝ }
 {
     x as usize
@@ -19,10 +20,10 @@ fn number_at(head: &[u8; 10], at: usize) -> usize
     requires { ⌜ at ≤ 6 ⌝ }
     ensures { λ r. ⌜ r ≡ numberAt (now (head .entry)) at ⌝ }
 {
-    wide(head[at])
-        + 256 * wide(head[at + 1])
-        + 65536 * wide(head[at + 2])
-        + 16777216 * wide(head[at + 3])
+    widen(head[at])
+        + 256 * widen(head[at + 1])
+        + 65536 * widen(head[at + 2])
+        + 16777216 * widen(head[at + 3])
 }
 
 // A record that breaks off or is too large: no other follows.
@@ -40,7 +41,7 @@ fn print_record(line: &mut [u8], head: &[u8; 10], text: &[u8], out: &mut [u8])
     ensures { λ r. ⌜ now (out .exit) ≡ headBuffer (now (head .entry)) (now (text .entry)) (now (out .entry)) ⌝ }
 {
     let lent = number_at(head, 2);
-    let end = answers::record_line(line, head[0], head[1], text, &mut out[0..lent]);
+    let end = batch_record::record_line(line, head[0], head[1], text, &mut out[0..lent]);
     io::write_all(STDOUT_FILENO, &line[0..end]);
 }
 

@@ -9,7 +9,7 @@ use lib.ListN.{length, drop, length-append, length-drop}
 use lib.Seq.{drop-drop}
 use Rattle.escape.specs.Escape.{bytesOf, Valid}
 use Rattle.escape.specs.declared.Unescaped.{Unescaped}
-use Rattle.body.specs.Code.{Stopped}
+use Rattle.body.specs.Packed.{Stopped}
 use Rattle.body.specs.Step.{End, close, Next, piece, stop, endOf}
 use Rattle.body.specs.Body.{Body, push, follow, bodyFrom, bodyBy, Measures}
 use Rattle.body.specs.declared.Measured.{Measured}

@@ -17,8 +17,8 @@ use Rattle.scan.proofs.Runs.{run-le, run-stops}
 use Rattle.escape.specs.Allows.{unicode, allowNul}
 use Rattle.escape.specs.declared.Allowed.{Allowed}
 use Rattle.escape.specs.declared.Unescaped.the-variants.{Byte}
-use Rattle.body.specs.Code.{Stopped}
-use Rattle.plain_run.specs.Plain.{plainByte}
+use Rattle.body.specs.Packed.{Stopped}
+use Rattle.body_plain.specs.Plain.{plainByte}
 use Rattle.body.specs.Step.{close, refuse, Next, piece, stop, plainOf, stepOf}
 use Rattle.body.specs.Body.{push, bodyBy}
 use Rattle.body.specs.Pieces.{Char}
@@ -86,8 +86,8 @@ plain-stops k b t other =
 -- ---- a run of such bytes, for any step and any test
 
 -- where a run ends, the next byte fails
-pub behind-run : (p : ℕ → Bool) (s : List ℕ) (i e : ℕ) → e ≡ i + run p (drop i s) → Stops p (drop e s)
-behind-run p s i e h = rw h (rw drop-drop at (run-stops p (drop i s)))
+pub after-run : (p : ℕ → Bool) (s : List ℕ) (i e : ℕ) → e ≡ i + run p (drop i s) → Stops p (drop e s)
+after-run p s i e h = rw h (rw drop-drop at (run-stops p (drop i s)))
 
 -- where no backslash and no byte that stands for itself is, the body ends
 pub run-ends : (k : Allowed) (s : List ℕ) (i : ℕ) → (getD s i 0 ≡ 92 → ⊥) → Stops (plainByte k) (drop i s) → Stopped (stepOf k (drop i s))
@@ -101,7 +101,7 @@ run-ends k s i e =
     go (b ∷ t) e h = rw (ne-eqb b 92 e) (plain-stops k b h e)
 
 pub other-stops : (k : Allowed) (s : List ℕ) (i : ℕ) → (getD s i 0 ≡ 92 → ⊥) → i ≡ i + run (plainByte k) (drop i s) → Stopped (stepOf k (drop i s))
-other-stops k s i e h = run-ends k s i e (behind-run (plainByte k) s i i h)
+other-stops k s i e h = run-ends k s i e (after-run (plainByte k) s i i h)
 
 module _ (step : List ℕ → Next) (p : ℕ → Bool) (law : (b : ℕ) (s : List ℕ) → p b ≡ true → step (b ∷ s) ≡ piece 1 (Byte b)) where
   -- THE LAW: a body is its front run, byte for byte, and the body of what follows.

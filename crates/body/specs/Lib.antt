@@ -2,4 +2,4 @@ pub mod Step
 pub mod Body
 pub mod Quote
 pub mod Pieces
-pub mod Code
+pub mod Packed

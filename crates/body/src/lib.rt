@@ -14,7 +14,7 @@ ghost use lib.ListN.{length, drop};
 ghost use Rattle.err.specs.Reading.{hashesOf};
 ghost use Rattle.utf8.specs.Cut.{lastLen};
 ghost use Rattle.escape.specs.Escape.{escapedOf};
-ghost use Rattle.body.specs.Code.{backslashCode, Stopped};
+ghost use Rattle.body.specs.Packed.{packedBackslash, Stopped};
 ghost use Rattle.body.specs.Step.{stop, endOf, nextOf, ofEscape, IsBad, lineBreakOf, backslashOf, plainOf, stepOf};
 ghost use Rattle.body.specs.Body.{body, Measures, Fitting};
 ghost use Rattle.body.specs.Quote.{quoteOf, closing, suffixed, afterEnd, stringOf};
@@ -116,9 +116,9 @@ fn backslash(s: &[u8], last: usize, k: Allowed) -> Step
 
 // A backslash and what follows at an offset, as one number; 0 where it ends the body, or where there is none. An escape sees what stands
 // before `end`.
-pub fn code_at(s: &[u8], at: usize, end: usize, k: Allowed) -> u64
+pub fn packed_at(s: &[u8], at: usize, end: usize, k: Allowed) -> u64
     requires { ⌜ (at ≤ length (now s)) × ((length (now s) < 4294967296) × (end ≡ length (now s) - lastLen (now s))) ⌝ }
-    ensures { λ r. ⌜ r ≡ backslashCode k (drop at (now (s .entry))) ⌝ }
+    ensures { λ r. ⌜ r ≡ packedBackslash k (drop at (now (s .entry))) ⌝ }
 {
     if s.len() - at < 2 {
         return 0;
@@ -133,12 +133,12 @@ pub fn code_at(s: &[u8], at: usize, end: usize, k: Allowed) -> u64
         if from + n == s.len() {
             return 0;
         }
-        return escape_code::nothing_code(n + 2);
+        return escape_packed::packed_nothing(n + 2);
     }
     if end <= next {
         return 0;
     }
-    escape_code::code(&s[at..end], k)
+    escape_packed::packed(&s[at..end], k)
 }
 
 // What stands at an offset of a quoted body, as litrs's loop takes it.
@@ -180,19 +180,19 @@ fn measure(s: &[u8], k: Allowed) -> Measured
 {
     let last = utf8::last_len(s);
     let end = s.len() - last;
-    let mut i = plain_run::front_end(s, k);
+    let mut i = body_plain::front_end(s, k);
     let mut n = i;
     loop {
         if scan::byte_at(s, i) == b'\\' {
-            let c = code_at(s, i, end, k);
+            let c = packed_at(s, i, end, k);
             if c == 0 {
                 break;
             }
-            n += escape::value_len(escape_code::code_value(c));
-            i += escape_code::code_len(c);
+            n += escape::value_len(escape_packed::packed_value(c));
+            i += escape_packed::packed_len(c);
             continue;
         }
-        let e = plain_run::plain_end(s, i, k);
+        let e = body_plain::plain_end(s, i, k);
         if e == i {
             break;
         }

@@ -12,7 +12,7 @@ use Rattle.scan.specs.Run.{All, Stops}
 use Rattle.scan.proofs.Runs.{run-is}
 use Rattle.parse.specs.Sets.{blank}
 use Rattle.parse.proofs.Classes.{blank-is}
-use Rattle.utf8.specs.Cut.{tail, lastLen, front, Aligned}
+use Rattle.utf8.specs.Cut.{continuation, lastLen, front, Aligned}
 use Rattle.utf8.proofs.Cuts.{last-drop, last-le}
 use Rattle.utf8.proofs.Aligned.{aligned-rest}
 use Rattle.escape.specs.Escape.{value, bytesOf, escapeOf}
@@ -31,19 +31,19 @@ use Rattle.body.proofs.Runs.{char-step}
 -- ---- a text without its last character
 
 -- the text without its last character, where that comes after an escape
-front-append : (t r : List ℕ) → 0 < length r → tail (getD r 0 0) ≡ false → front (t ++ r) ≡ t ++ front r
+front-append : (t r : List ℕ) → 0 < length r → continuation (getD r 0 0) ≡ false → front (t ++ r) ≡ t ++ front r
 front-append t r h f =
     let at : getD (t ++ r) (length t) 0 ≡ getD r 0 0 = ap (λ (n : ℕ). getD (t ++ r) n 0) (sym (add-zero (length t))) ∙ getD-append-add t r 0 0 in
-    let l = last-drop (t ++ r) (length t) (omega (arith, length-append t r)) (ap tail at ∙ f) in
+    let l = last-drop (t ++ r) (length t) (omega (arith, length-append t r)) (ap continuation at ∙ f) in
     let same : lastLen (t ++ r) ≡ lastLen r = sym (l .0) ∙ ap lastLen (drop-append-seam t r) in
     let e : length (t ++ r) - lastLen (t ++ r) ≡ length t + (length r - lastLen r) = omega (arith, same, length-append t r, last-le r) in
     rw (e, take-append-add t r (length r - lastLen r))
 
-front-first : (r : List ℕ) → tail (getD r 0 0) ≡ false → tail (getD (front r) 0 0) ≡ false
-unfolding tail
+front-first : (r : List ℕ) → continuation (getD r 0 0) ≡ false → continuation (getD (front r) 0 0) ≡ false
+unfolding continuation
 front-first r f = go (length r - lastLen r) r f
   where
-    go : (n : ℕ) (r : List ℕ) → tail (getD r 0 0) ≡ false → tail (getD (take n r) 0 0) ≡ false
+    go : (n : ℕ) (r : List ℕ) → continuation (getD r 0 0) ≡ false → continuation (getD (take n r) 0 0) ≡ false
     go zero [] f = refl
     go zero (b ∷ r) f = refl
     go (suc n) [] f = refl
@@ -52,7 +52,7 @@ front-first r f = go (length r - lastLen r) r f
 -- ---- steps
 
 module _ (k : Allowed) where
-  escape-step : {t : List ℕ} {u : Unescaped} (r : List ℕ) → Esc k t u → 0 < length r → tail (getD r 0 0) ≡ false
+  escape-step : {t : List ℕ} {u : Unescaped} (r : List ℕ) → Esc k t u → 0 < length r → continuation (getD r 0 0) ≡ false
       → stepOf k (t ++ r) ≡ piece (length t) u
   escape-step {t} {u} r x h f =
       let g = first-two r x in

@@ -18,12 +18,12 @@ use Rattle.parse.specs.Class.{classOf}
 use Rattle.parse.specs.Sets.{blank}
 use Rattle.parse.proofs.Classes.{blank-cases}
 use Rattle.utf8.specs.Utf8.{encode, Utf8}
-use Rattle.utf8.specs.Cut.{tail}
+use Rattle.utf8.specs.Cut.{continuation}
 use Rattle.utf8.proofs.Laws.{is-row1, encode-high}
-use Rattle.utf8.proofs.Text.{utf8-nil, utf8-one, utf8-append, utf8-ascii, utf8-behind-ascii, boundary-at, boundary-take, boundary-drop}
+use Rattle.utf8.proofs.Text.{utf8-nil, utf8-one, utf8-append, utf8-ascii, utf8-after-ascii, boundary-at, boundary-take, boundary-drop}
 use Rattle.utf8.proofs.Aligned.{aligned}
 use Rattle.escape.specs.Allows.{byteEscapes, allowNul}
-use Rattle.escape.specs.Escape.{letterOf, bytesOf}
+use Rattle.escape.specs.Escape.{simpleEscapeOf, bytesOf}
 use Rattle.escape.specs.Pieces.{Esc, letter, nul, hex, uni}
 use Rattle.escape.specs.declared.Allowed.{Allowed}
 use Rattle.escape.specs.declared.Unescaped.{Unescaped}
@@ -42,7 +42,7 @@ encode-no-zero v g =
 
 module _ (k : Allowed) (no : allowNul k ≡ false) where
   escape-no-zero : {t : List ℕ} {u : Unescaped} → Esc k t u → All (except 0) (bytesOf u)
-  escape-no-zero (letter b h) = (other (letterOf b) h, tt)
+  escape-no-zero (letter b h) = (other (simpleEscapeOf b) h, tt)
   escape-no-zero (nul a) = clash a no
   escape-no-zero (hex a b h g p q) = (other (classOf b + 16 * classOf a) (tested (allowNul k) _ no q), tt)
   escape-no-zero (uni {v = v} u h l z sc e) = encode-no-zero v (tested (allowNul k) v no z)
@@ -64,19 +64,19 @@ cut p r h u =
 
 -- and an ASCII byte may be left out
 pub cut-at-ascii : (p : List ℕ) (b : ℕ) (r : List ℕ) → b < 0x80 → Utf8 (p ++ (b ∷ r)) → Utf8 p × Utf8 r
-cut-at-ascii p b r h u = let c = cut p (b ∷ r) (λ e. omega arith) u in (c .0, utf8-behind-ascii b r h (c .1))
+cut-at-ascii p b r h u = let c = cut p (b ∷ r) (λ e. omega arith) u in (c .0, utf8-after-ascii b r h (c .1))
 
 -- what stands before an escape and what stands after it
 around-escape : {k : Allowed} {t : List ℕ} {u : Unescaped} → Esc k t u → (p r : List ℕ) → Utf8 (p ++ (t ++ r)) → Utf8 p × Utf8 r
-unfolding tail
+unfolding continuation
 around-escape {t = t} x p r w =
     let a = cut p (t ++ r) (λ e. omega (arith, first-two r x .2)) w in
     (a .0, cut t r (eqb-false (getD r 0 0 / 64) 2 (after r x (aligned (t ++ r) (a .1)))) (a .1) .1)
 
 -- what stands after spaces, tabs and LFs
-behind-blanks : (ws r : List ℕ) → All blank ws → Utf8 (ws ++ r) → Utf8 r
-behind-blanks [] r a u = u
-behind-blanks (b ∷ ws) r a u = behind-blanks ws r (a .1) (cut-at-ascii [] b (ws ++ r) (low (blank-cases b (a .0))) u .1)
+after-blanks : (ws r : List ℕ) → All blank ws → Utf8 (ws ++ r) → Utf8 r
+after-blanks [] r a u = u
+after-blanks (b ∷ ws) r a u = after-blanks ws r (a .1) (cut-at-ascii [] b (ws ++ r) (low (blank-cases b (a .0))) u .1)
   where
     low : (b ≡ 32) ⊎ ((b ≡ 9) ⊎ (b ≡ 10)) → b < 0x80
     low (inl e) = omega arith
@@ -85,7 +85,7 @@ behind-blanks (b ∷ ws) r a u = behind-blanks ws r (a .1) (cut-at-ascii [] b (w
 
 module _ (k : Allowed) (low : byteEscapes k ≡ false) where
   escape-utf8 : {t : List ℕ} {u : Unescaped} → Esc k t u → Utf8 (bytesOf u)
-  unfolding tail
+  unfolding continuation
   escape-utf8 {t} {u} x = go u (rw (escaped k [] x refl) at (escape-unwraps k (t ++ [])))
     where
       go : (u : Unescaped) → Unwraps k u → Utf8 (bytesOf u)
@@ -104,5 +104,5 @@ module _ (k : Allowed) (low : byteEscapes k ≡ false) where
   content-utf8 (continue {s} {v} {c} ws a st r e) p suf w =
       let is : c ++ (34 ∷ suf) ≡ 92 ∷ 10 ∷ (ws ++ (s ++ (34 ∷ suf))) = rw e (simp append-assoc) in
       let first = cut-at-ascii p 92 (10 ∷ (ws ++ (s ++ (34 ∷ suf)))) (omega arith) (subst (λ (l : List ℕ). Utf8 (p ++ l)) is w) in
-      let rest = behind-blanks ws (s ++ (34 ∷ suf)) a (cut-at-ascii [] 10 (ws ++ (s ++ (34 ∷ suf))) (omega arith) (first .1) .1) in
+      let rest = after-blanks ws (s ++ (34 ∷ suf)) a (cut-at-ascii [] 10 (ws ++ (s ++ (34 ∷ suf))) (omega arith) (first .1) .1) in
       utf8-append p v (first .0) (content-utf8 r [] suf rest)

@@ -8,10 +8,10 @@ use Rattle.parse.specs.Class.{classOf}
 use Rattle.parse.specs.Sets.{blank, suffixRest}
 use Rattle.suffix.specs.Suffix.{suffixFault, faultFrom, suffixStart}
 use Rattle.utf8.specs.Utf8.{encode}
-use Rattle.utf8.specs.Cut.{tail, isBoundary}
+use Rattle.utf8.specs.Cut.{continuation, isBoundary}
 use Rattle.escape.specs.declared.Allowed.{Allowed}
 use Rattle.escape.specs.declared.Allowed.the-variants as allowed
-use Rattle.escape.specs.Escape.{letterOf, xByte, xEscape, isScalar, uScalar, badStart, uInner, uBraced, uEscape, escapeBy, escapeOf}
+use Rattle.escape.specs.Escape.{simpleEscapeOf, xByte, xEscape, isScalar, uScalar, badStart, uInner, uBraced, uEscape, escapeBy, escapeOf}
 use Rattle.body.specs.Step.{close, lineBreakOf, backslashOf, plainOf, stepOf}
 use Rattle.body.specs.Body.{bodyFrom, bodyBy, body}
 use Rattle.body.specs.Quote.{refused, suffixed, stringOf}
@@ -32,5 +32,5 @@ pub record Marked : Type 0 where
       ≡ record { at = 11; value = 97 ∷ 195 ∷ 169 ∷ []; end = close }
 
 pub marked : Marked
-unfolding classOf except blank suffixRest suffixFault faultFrom suffixStart encode tail isBoundary letterOf xByte xEscape isScalar uScalar badStart uInner uBraced uEscape escapeBy escapeOf lineBreakOf backslashOf plainOf stepOf bodyFrom bodyBy suffixed stringOf
+unfolding classOf except blank suffixRest suffixFault faultFrom suffixStart encode continuation isBoundary simpleEscapeOf xByte xEscape isScalar uScalar badStart uInner uBraced uEscape escapeBy escapeOf lineBreakOf backslashOf plainOf stepOf bodyFrom bodyBy suffixed stringOf
 marked = record { lone = refl; short = refl; with-suffix = refl; nul = refl; pieces = refl }

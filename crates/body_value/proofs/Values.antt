@@ -71,20 +71,20 @@ step-unwraps k [] = tt
 step-unwraps k (b ∷ s) = cond-eq (StepUnwraps k (b ∷ s)) b 92 (backslash-unwraps k b s) (plain-unwraps k b s)
 
 module _ (k : Allowed) (s : List ℕ) (n : ℕ) where
-  told : (u : Unescaped) → stepOf k s ≡ piece n u → StepUnwraps k s (piece n u)
-  told u e = rw e at (step-unwraps k s)
+  known : (u : Unescaped) → stepOf k s ≡ piece n u → StepUnwraps k s (piece n u)
+  known u e = rw e at (step-unwraps k s)
 
   -- where the kind has no Unicode escapes, no step gives a character
   pub no-unicode : (c : ℕ) → unicode k ≡ false → stepOf k s ≡ piece n (Unicode c) → ⊥
   no-unicode c u e =
-      let r = told (Unicode c) e in
+      let r = known (Unicode c) e in
       cond-eq (λ (x : ℕ). ⊥) (getD s 0 0) 92 {x = 0} {y = 0}
       (λ b. clash (r .0 b .1) u)
       (λ b. let z : _≡_ {A = ℕ} 0 1 = cc (r .1 b) in omega arith)
 
   -- where it has no byte escapes, an escape gives a byte below 128
   pub escape-low : (b : ℕ) → byteEscapes k ≡ false → getD s 0 0 ≡ 92 → stepOf k s ≡ piece n (Byte b) → b < 128
-  escape-low b u f e = told (Byte b) e .0 f .1 u
+  escape-low b u f e = known (Byte b) e .0 f .1 u
 
 -- ---- a body that is as long as what it stands for
 

@@ -15,15 +15,15 @@ pub fn write_value(out: &mut [u8], s: &[u8], k: Allowed) -> usize
     let mut at: usize = 0;
     loop {
         if scan::byte_at(s, i) == b'\\' {
-            let c = body::code_at(s, i, end, k);
+            let c = body::packed_at(s, i, end, k);
             if c == 0 {
                 return at;
             }
-            at += escape::put_value(&mut out[at..], escape_code::code_value(c));
-            i += escape_code::code_len(c);
+            at += escape::put_value(&mut out[at..], escape_packed::packed_value(c));
+            i += escape_packed::packed_len(c);
             continue;
         }
-        let e = plain_run::plain_end(s, i, k);
+        let e = body_plain::plain_end(s, i, k);
         if e == i {
             return at;
         }

@@ -6,6 +6,7 @@ ghost use mathlib.Core.Path.{_≡_};
 ghost use Rattle.err.specs.Reading.{outcomeOf};
 ghost use Rattle.boolean.specs.Bool.{boolRead};
 
+// litrs's `BoolLit::parse`.
 pub fn parse(text: &[u8]) -> Reading
     ensures { λ r. ⌜ outcomeOf r ≡ boolRead (now (text .entry)) ⌝ }
 {

@@ -38,7 +38,7 @@ four (x ∷ y ∷ []) a b d e h = absurd (omega arith)
 four (x ∷ y ∷ z ∷ []) a b d e h = absurd (omega arith)
 four (x ∷ y ∷ z ∷ w ∷ l) a b d e h = record { count = refl; bytes = refl }
 
--- ---- pieces one behind the other
+-- ---- pieces one after the other
 
 pub nothing : (l : List ℕ) → Wrote [] 0 l l
 unfolding over
@@ -52,19 +52,19 @@ wrote-length {p} {n} {l} {out} w h = ap length (w .bytes) ∙ simp (length-appen
 pub within : {p : List ℕ} {at : ℕ} {l out : List ℕ} → Wrote p at l out → length p ≤ length l → at ≤ length out
 within w h = omega (arith, wrote-length w h, w .count)
 
--- the rest behind what was written has room for n more bytes
+-- the rest after what was written has room for n more bytes
 pub room : {p : List ℕ} {at : ℕ} {l out : List ℕ} (n : ℕ) → Wrote p at l out → length p + n ≤ length l → n ≤ length (take (length out - at) (drop at out))
 room {p} {at} {l} {out} n w h =
     let e : length out ≡ length l = wrote-length w (omega arith) in
     rw (take-all (length out - at) (drop at out) (simp length-drop (omega arith)))
     (simp length-drop (omega (arith, w .count)))
 
--- a piece written into the rest stands behind what was written before
-pub behind : {p q : List ℕ} {at n : ℕ} {l out ys : List ℕ}
+-- a piece written into the rest stands after what was written before
+pub past : {p q : List ℕ} {at n : ℕ} {l out ys : List ℕ}
     → Wrote p at l out → Wrote q n (take (length out - at) (drop at out)) ys → length p + length q ≤ length l
     → Wrote (p ++ q) (at + n) l (putMid at (length out - at) out ys)
 unfolding over
-behind {p} {q} {at} {n} {l} {out} {ys} w v h = record {
+past {p} {q} {at} {n} {l} {out} {ys} w v h = record {
   count = simp length-append (omega (arith, w .count, v .count));
   bytes = rw (front, end, mid) (simp (append-assoc, append-nil, length-append));
 }

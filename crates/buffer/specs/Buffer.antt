@@ -5,7 +5,7 @@ use mathlib.Core.Path.{_≡_}
 use mathlib.Core.List.{List, _++_}
 use lib.ListN.{length, drop}
 
--- the piece, and behind it what the buffer held there (01, Quoted kinds: "bytes past the value keep what they held")
+-- the piece, and after it what the buffer held there (01, Quoted kinds: "bytes past the value keep what they held")
 unfoldable pub over : List ℕ → List ℕ → List ℕ
 over piece buf = piece ++ drop (length piece) buf
 

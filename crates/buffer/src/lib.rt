@@ -1,4 +1,4 @@
-// Pieces written at the front of a lent buffer. Each writer answers the piece's length and leaves the bytes behind it as they were.
+// Pieces written at the front of a lent buffer. Each writer returns the piece's length and leaves the bytes after it as they were.
 ghost use mathlib.Core.Path.{_≡_};
 ghost use mathlib.Core.List.{_∷_, []};
 ghost use Prim.Native.Nat.{_≤_, _<_};
@@ -6,6 +6,7 @@ ghost use lib.ListN.{length};
 ghost use Rattle.buffer.specs.Buffer.{Wrote};
 ghost use Rattle.buffer.specs.Digits.{decimal, hexDigit, hexDigits};
 
+// Writes one byte.
 pub fn put_one(out: &mut [u8], a: u8) -> usize
     requires { ⌜ 1 ≤ length (now out) ⌝ }
     ensures { λ r. ⌜ Wrote (a ∷ []) r (now (out .entry)) (now (out .exit)) ⌝ }
@@ -14,6 +15,7 @@ pub fn put_one(out: &mut [u8], a: u8) -> usize
     1
 }
 
+// Writes two bytes.
 pub fn put_two(out: &mut [u8], a: u8, b: u8) -> usize
     requires { ⌜ 2 ≤ length (now out) ⌝ }
     ensures { λ r. ⌜ Wrote (a ∷ b ∷ []) r (now (out .entry)) (now (out .exit)) ⌝ }
@@ -23,6 +25,7 @@ pub fn put_two(out: &mut [u8], a: u8, b: u8) -> usize
     2
 }
 
+// Writes three bytes.
 pub fn put_three(out: &mut [u8], a: u8, b: u8, d: u8) -> usize
     requires { ⌜ 3 ≤ length (now out) ⌝ }
     ensures { λ r. ⌜ Wrote (a ∷ b ∷ d ∷ []) r (now (out .entry)) (now (out .exit)) ⌝ }
@@ -33,6 +36,7 @@ pub fn put_three(out: &mut [u8], a: u8, b: u8, d: u8) -> usize
     3
 }
 
+// Writes four bytes.
 pub fn put_four(out: &mut [u8], a: u8, b: u8, d: u8, e: u8) -> usize
     requires { ⌜ 4 ≤ length (now out) ⌝ }
     ensures { λ r. ⌜ Wrote (a ∷ b ∷ d ∷ e ∷ []) r (now (out .entry)) (now (out .exit)) ⌝ }
@@ -57,6 +61,7 @@ pub fn put_bytes(out: &mut [u8], piece: &[u8]) -> usize
     i
 }
 
+// The lower-case hex digit of a number below 16.
 fn hex_digit(d: u8) -> u8
     requires { ⌜ d < 16 ⌝ }
     ensures { λ r. ⌜ r ≡ hexDigit d ⌝ }

@@ -20,7 +20,7 @@ use Rattle.suffix.specs.Suffix.{suffixFault}
 use Rattle.parse.proofs.Classes.{both}
 use Rattle.utf8.specs.Utf8.{Scalar, encode}
 use Rattle.utf8.specs.Decode.{decode}
-use Rattle.utf8.specs.Cut.{tail}
+use Rattle.utf8.specs.Cut.{continuation}
 use Rattle.utf8.specs.declared.Decoded.{Decoded}
 use Rattle.utf8.specs.declared.Decoded.the-variants as decoded
 use Rattle.utf8.proofs.At.{found-at}
@@ -30,10 +30,10 @@ use Rattle.escape.specs.Escape as escape
 use Rattle.escape.specs.Pieces.{Esc}
 use Rattle.escape.specs.declared.Unescaped.{Unescaped}
 use Rattle.escape.proofs.Exact.{Escapes, escape-sound, escaped, first-two}
-use Rattle.single_quote.specs.Quote.{quoteKind, offsetOf, allowedIn, unterminated, overlong, empty}
-use Rattle.single_quote.specs.Content.{Quoted, decodedBy, plainAt, special, quoteAt}
-use Rattle.single_quote.specs.declared.Quote.{Quote}
-use Rattle.single_quote.specs.declared.Quote.the-variants.{Char, Byte}
+use Rattle.character_quote.specs.Quote.{quoteKind, offsetOf, allowedIn, unterminated, overlong, empty}
+use Rattle.character_quote.specs.Content.{Quoted, decodedBy, plainAt, special, quoteAt}
+use Rattle.character_quote.specs.declared.Quote.{Quote}
+use Rattle.character_quote.specs.declared.Quote.the-variants.{Char, Byte}
 use Rattle.character.specs.Single.{suffixedAt, closedAt, scalarOf, escapedBy, escapedAt, firstAt, closedBy, singleAt, charRead, byteRead}
 use Rattle.character.specs.Parts.{openingOf, Plain, Content, char, byte, escape, Tiled}
 use Rattle.character.proofs.Within.{quote-there, escape-refused, suffix-refused}
@@ -82,14 +82,14 @@ module _ (q : Quote) (s : List ℕ) (opens : s ≡ openingOf q ++ drop (offsetOf
       cond-eq P (getD s at 0) 39 (λ quote.
       cond-eq P (suffixFault (drop (at + 1) s)) 0 (λ good.
       let l = quote-there s at quote in
-      let behind : drop at s ≡ 39 ∷ drop (at + 1) s = rw (drop-cons s at 0 l, quote, add-one) in (
+      let past : drop at s ≡ 39 ∷ drop (at + 1) s = rw (drop-cons s at 0 l, quote, add-one) in (
         v,
         refl,
         refl,
         record {
           content = c;
           suf = drop (at + 1) s;
-          text = opens ∙ ap (λ (r : List ℕ). openingOf q ++ r) (sym e ∙ ap (λ (r : List ℕ). c ++ r) behind);
+          text = opens ∙ ap (λ (r : List ℕ). openingOf q ++ r) (sym e ∙ ap (λ (r : List ℕ). c ++ r) past);
           is = is;
           suffix = good;
           end = omega (arith, length-drop (at + 1) s);
@@ -200,17 +200,17 @@ module _ (q : Quote) (s : List ℕ) {e v : ℕ} (t : Tiled q s e v) where
       ap (drop e) parts ∙ ap (λ (n : ℕ). drop n (before ++ (39 ∷ t .suf))) last ∙ drop-append-add before (39 ∷ t .suf) 1 in
       rw (at, tiled-ascii .2, next, rest, t .suffix, same)
 
-  behind : drop (offsetOf q) s ≡ t .content ++ (39 ∷ t .suf)
-  behind = ap (drop (offsetOf q)) (t .text) ∙ drop-at (openingOf q) (t .content ++ (39 ∷ t .suf)) (offsetOf q) (opening-length q)
+  past : drop (offsetOf q) s ≡ t .content ++ (39 ∷ t .suf)
+  past = ap (drop (offsetOf q)) (t .text) ∙ drop-at (openingOf q) (t .content ++ (39 ∷ t .suf)) (offsetOf q) (opening-length q)
 
   first-is : getD s (offsetOf q) 0 ≡ getD (t .content ++ (39 ∷ t .suf)) 0 0
   first-is =
-      ap (λ (n : ℕ). getD s n 0) (sym (add-zero (offsetOf q))) ∙ sym (getD-drop (offsetOf q) s 0 0) ∙ ap (λ (r : List ℕ). getD r 0 0) behind
+      ap (λ (n : ℕ). getD s n 0) (sym (add-zero (offsetOf q))) ∙ sym (getD-drop (offsetOf q) s 0 0) ∙ ap (λ (r : List ℕ). getD r 0 0) past
 
   single-first : singleAt q s ≡ closedBy q s (offsetOf q) (firstAt q s (offsetOf q))
   unfolding singleAt
   single-first =
-      rw (lt-ltb (offsetOf q) (length s) (omega (arith, length-drop (offsetOf q) s, ap length behind, length-append (t .content) (39 ∷ t .suf))))
+      rw (lt-ltb (offsetOf q) (length s) (omega (arith, length-drop (offsetOf q) s, ap length past, length-append (t .content) (39 ∷ t .suf))))
 
   of-plain : Plain (getD s (offsetOf q) 0) → singleAt q s ≡ closedBy q s (offsetOf q) (plainAt q s (offsetOf q))
   unfolding firstAt
@@ -221,11 +221,11 @@ module _ (q : Quote) (s : List ℕ) {e v : ℕ} (t : Tiled q s e v) where
   of-escape h = single-first ∙ rw h
 
   escape-complete : (u : Unescaped) → Esc (allowedIn q) (t .content) u → v ≡ scalarOf u → singleAt q s ≡ accepted (quoteKind q) e (value v)
-  unfolding escapedAt tail
+  unfolding escapedAt continuation
   escape-complete u x is =
       of-escape (first-is ∙ first-two (39 ∷ t .suf) x .2)
       ∙ ap (λ (o : Escaped). closedBy q s (offsetOf q) (escapedBy (offsetOf q) o))
-      (ap (escapeOf (allowedIn q)) behind ∙ escaped (allowedIn q) (39 ∷ t .suf) x refl)
+      (ap (escapeOf (allowedIn q)) past ∙ escaped (allowedIn q) (39 ∷ t .suf) x refl)
       ∙ closed-complete (length (t .content)) (scalarOf u) refl (sym is)
 
 plain-complete : (s : List ℕ) {e v : ℕ} (t : Tiled Char s e v) → Scalar v → Plain v → t .content ≡ encode v → singleAt Char s ≡ accepted 4 e (value v)
@@ -234,7 +234,7 @@ plain-complete s {v = v} t sc p is =
     let there : t .content ++ r ≡ encode v ++ r = rw is in
     let first : getD s 1 0 ≡ getD (encode v ++ r) 0 0 = first-is Char s t ∙ ap (λ (l : List ℕ). getD l 0 0) there in
     of-plain Char s t (rw first (plain-byte v _ (first-byte v r) p))
-    ∙ ap (λ (d : Decoded). closedBy Char s 1 (decodedBy d)) (ap decode (behind Char s t ∙ there) ∙ decode-encode v r sc)
+    ∙ ap (λ (d : Decoded). closedBy Char s 1 (decodedBy d)) (ap decode (past Char s t ∙ there) ∙ decode-encode v r sc)
     ∙ closed-complete Char s t (length (encode v)) v (ap length (sym is)) refl
 
 ascii-complete : (s : List ℕ) {e v : ℕ} (t : Tiled Byte s e v) → v < 128 → Plain v → t .content ≡ v ∷ [] → singleAt Byte s ≡ accepted 6 e (value v)

@@ -5,7 +5,7 @@ use mathlib.Core.List.{[], _∷_}
 use Rattle.err.specs.Outcome.{refused, none, between}
 use Rattle.scan.specs.Sets.{except}
 use Rattle.utf8.specs.Decode.{lengthFrom, decodeBy, decode}
-use Rattle.single_quote.specs.Content.{special, quoteAt}
+use Rattle.character_quote.specs.Content.{special, quoteAt}
 use Rattle.character.specs.Single.{closedAt, firstAt, singleAt, charRead, byteRead}
 
 pub record Rows : Type 0 where

@@ -7,9 +7,9 @@ use Prim.Native.Nat.{ℕ}
 use native.Mathlib.Omega.{arith}
 use lib.ListN.{length}
 use Rattle.err.specs.Outcome.{refused, none}
-use Rattle.single_quote.specs.Quote.{opensBy, startFault}
-use Rattle.single_quote.specs.declared.Quote.{Quote}
-use Rattle.single_quote.specs.declared.Quote.the-variants.{Char, Byte}
+use Rattle.character_quote.specs.Quote.{opensBy, startFault}
+use Rattle.character_quote.specs.declared.Quote.{Quote}
+use Rattle.character_quote.specs.declared.Quote.the-variants.{Char, Byte}
 use Rattle.character.specs.Single.{singleAt, charRead, byteRead, readBy}
 
 pub read-none : (q : Quote) (s : List ℕ) → length s ≡ 0 → refused 1 none ≡ readBy q s

@@ -8,22 +8,22 @@ use native.Mathlib.Omega.{arith}
 use Rattle.err.specs.Outcome.{accepted, value}
 use Rattle.scan.proofs.Cases.{clash}
 use Rattle.utf8.specs.Utf8.{Scalar}
-use Rattle.utf8.specs.Cut.{tail}
+use Rattle.utf8.specs.Cut.{continuation}
 use Rattle.escape.specs.Pieces.{Esc}
 use Rattle.escape.specs.declared.Allowed.{Allowed}
 use Rattle.escape.specs.declared.Unescaped.{Unescaped}
 use Rattle.escape.specs.declared.Unescaped.the-variants as unescaped
 use Rattle.escape.proofs.Values.{Unwraps, EscapeUnwraps, escape-unwraps}
 use Rattle.escape.proofs.Exact.{escaped}
-use Rattle.single_quote.specs.Quote.{allowedIn, ValueFits}
-use Rattle.single_quote.specs.declared.Quote.{Quote}
-use Rattle.single_quote.specs.declared.Quote.the-variants.{Char, Byte}
+use Rattle.character_quote.specs.Quote.{allowedIn, ValueFits}
+use Rattle.character_quote.specs.declared.Quote.{Quote}
+use Rattle.character_quote.specs.declared.Quote.the-variants.{Char, Byte}
 use Rattle.character.specs.Single.{scalarOf, charRead, byteRead, readBy}
 use Rattle.character.specs.Parts.{Content, char, byte, escape}
 use Rattle.character.proofs.Exact.{no-kind, char-sound, byte-sound}
 
 unwraps : (k : Allowed) {t : List ℕ} {u : Unescaped} → Esc k t u → Unwraps k u
-unfolding tail
+unfolding continuation
 unwraps k {t} x = subst (EscapeUnwraps k) (escaped k [] x refl) (escape-unwraps k (t ++ []))
 
 of-char : {c : List ℕ} {v : ℕ} → Content Char c v → Scalar v

@@ -19,10 +19,10 @@ use Rattle.escape.specs.Escape.{Escaped, value, bad, escapeOf}
 use Rattle.escape.specs.declared.Allowed.{Allowed}
 use Rattle.escape.specs.declared.Unescaped.{Unescaped}
 use Rattle.escape.proofs.Within.{escape-in}
-use Rattle.single_quote.specs.Quote.{allowedIn}
-use Rattle.single_quote.specs.Content.{Quoted, content, fault, decodedBy, plainAt, special, quoteAt}
-use Rattle.single_quote.specs.declared.Quote.{Quote}
-use Rattle.single_quote.specs.declared.Quote.the-variants.{Char, Byte}
+use Rattle.character_quote.specs.Quote.{allowedIn}
+use Rattle.character_quote.specs.Content.{Quoted, content, fault, decodedBy, plainAt, special, quoteAt}
+use Rattle.character_quote.specs.declared.Quote.{Quote}
+use Rattle.character_quote.specs.declared.Quote.the-variants.{Char, Byte}
 use Rattle.character.specs.Single.{escapedBy, escapedAt, firstAt}
 
 pub quote-there : (s : List ℕ) (at : ℕ) → getD s at 0 ≡ 39 → at < length s
@@ -77,7 +77,7 @@ module _ (s : List ℕ) (at : ℕ) (h : at < length s) where
       cond-in P (special (getD s at 0)) (λ f. tt) λ f.
       cond-in P (eqb (getD s at 0) 92) (λ f. escaped-inside q) λ f. plain-inside q
 
-  -- so the literal closes behind it
+  -- so the literal closes after it
   pub content-ends : (q : Quote) {v n : ℕ} → content v n ≡ firstAt q s at → at + n ≤ length s
   content-ends q e = subst (Inside s at) (sym e) (first-inside q)
 

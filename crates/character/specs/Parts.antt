@@ -9,10 +9,10 @@ use Rattle.suffix.specs.Suffix.{suffixFault}
 use Rattle.utf8.specs.Utf8.{Scalar, encode}
 use Rattle.escape.specs.Pieces.{Esc}
 use Rattle.escape.specs.declared.Unescaped.{Unescaped}
-use Rattle.single_quote.specs.Quote.{allowedIn}
-use Rattle.single_quote.specs.Content.{special}
-use Rattle.single_quote.specs.declared.Quote.{Quote}
-use Rattle.single_quote.specs.declared.Quote.the-variants.{Char, Byte}
+use Rattle.character_quote.specs.Quote.{allowedIn}
+use Rattle.character_quote.specs.Content.{special}
+use Rattle.character_quote.specs.declared.Quote.{Quote}
+use Rattle.character_quote.specs.declared.Quote.the-variants.{Char, Byte}
 use Rattle.character.specs.Single.{scalarOf}
 
 -- `'`, `b'`

@@ -15,10 +15,10 @@ use Rattle.escape.specs.Escape.{Escaped, escapeOf}
 use Rattle.escape.specs.Escape as escape
 use Rattle.escape.specs.declared.Unescaped.{Unescaped}
 use Rattle.escape.specs.declared.Unescaped.the-variants as unescaped
-use Rattle.single_quote.specs.Quote.{quoteKind, offsetOf, allowedIn, unterminated, overlong, opensBy, startFault}
-use Rattle.single_quote.specs.Content.{Quoted, content, fault, plainAt, special, quoteAt}
-use Rattle.single_quote.specs.declared.Quote.{Quote}
-use Rattle.single_quote.specs.declared.Quote.the-variants.{Char, Byte}
+use Rattle.character_quote.specs.Quote.{quoteKind, offsetOf, allowedIn, unterminated, overlong, opensBy, startFault}
+use Rattle.character_quote.specs.Content.{Quoted, content, fault, plainAt, special, quoteAt}
+use Rattle.character_quote.specs.declared.Quote.{Quote}
+use Rattle.character_quote.specs.declared.Quote.the-variants.{Char, Byte}
 use Rattle.character.specs.declared.Single.{Single}
 use Rattle.character.specs.declared.Single.the-variants as single
 

@@ -1,4 +1,6 @@
 // Char and byte literals: one character or byte between single quotes.
+use character_quote::Inner;
+use character_quote::Quote;
 use err::Checked;
 use err::ParseErrorKind;
 use err::Reading;
@@ -6,14 +8,12 @@ use err::Span;
 use escape::Escape;
 use escape::Unescaped;
 use scan::ByteSet;
-use single_quote::Inner;
-use single_quote::Quote;
 ghost use mathlib.Core.Path.{_≡_};
 ghost use mathlib.Core.List.{List};
 ghost use Prim.Native.Nat.{ℕ, _-_, _≤_, _<_};
 ghost use lib.ListN.{length};
 ghost use Rattle.err.specs.Reading.{outcomeOf};
-ghost use Rattle.single_quote.specs.Content.{innerOf};
+ghost use Rattle.character_quote.specs.Content.{innerOf};
 ghost use Rattle.escape.specs.Escape.{escapedOf};
 ghost use Rattle.character.specs.Single.{singleOf, IsRefused, suffixedAt, closedAt, scalarOf, FaultEnds, escapedBy, escapedAt, firstAt, IsFault, closedBy, singleAt, readBy};
 
@@ -96,9 +96,9 @@ fn first(text: &[u8], at: usize, q: Quote) -> Inner
 {
     let b = text[at];
     if b == b'\'' {
-        return single_quote::quote_first(text, at, q);
+        return character_quote::quote_first(text, at, q);
     }
-    if single_quote::is_special(b) {
+    if character_quote::is_special(b) {
         return Inner::Refused(
             ParseErrorKind::UnescapedSpecialWhitespace,
             Span::Between(at, at + 1),
@@ -107,7 +107,7 @@ fn first(text: &[u8], at: usize, q: Quote) -> Inner
     if b == b'\\' {
         return escaped(text, at, q);
     }
-    single_quote::plain(text, at, q)
+    character_quote::plain(text, at, q)
 }
 
 // The refusal of what stands between the quotes is the literal's, whatever the kind and wherever the content starts.
@@ -149,6 +149,7 @@ fn refusal(lit: Single) -> Reading
     }
 }
 
+// litrs's `CharLit::parse` and `ByteLit::parse`.
 pub fn parse(text: &[u8], q: Quote) -> Reading
     ensures { λ r. ⌜ outcomeOf r ≡ readBy q (now (text .entry)) ⌝ }
 {

@@ -13,10 +13,10 @@ use Rattle.err.specs.Outcome.{Values, accepted, value}
 use Rattle.scan.proofs.Cases.{clash}
 use Rattle.escape.specs.declared.Unescaped.{Unescaped}
 use Rattle.escape.specs.declared.Unescaped.the-variants as unescaped
-use Rattle.single_quote.specs.Quote.{allowedIn}
-use Rattle.single_quote.specs.Content.{special}
-use Rattle.single_quote.specs.declared.Quote.{Quote}
-use Rattle.single_quote.specs.declared.Quote.the-variants.{Char, Byte}
+use Rattle.character_quote.specs.Quote.{allowedIn}
+use Rattle.character_quote.specs.Content.{special}
+use Rattle.character_quote.specs.declared.Quote.{Quote}
+use Rattle.character_quote.specs.declared.Quote.the-variants.{Char, Byte}
 use Rattle.character.specs.Single.{scalarOf, charRead, byteRead}
 use Rattle.character.specs.Parts.{openingOf, Plain, Content, Tiled}
 use Rattle.character.specs.Parts as parts
@@ -41,8 +41,8 @@ abbrev pub Ends : List ℕ → List ℕ → Type 0
 Ends x s = (p : List ℕ) × (s ≡ p ++ x)
 
 -- with more bytes before it
-pub behind : (q : List ℕ) {x r : List ℕ} → Ends x r → Ends x (q ++ r)
-behind q {x} (p, e) = (q ++ p, ap (λ (l : List ℕ). q ++ l) e ∙ sym (append-assoc q p x))
+pub past : (q : List ℕ) {x r : List ℕ} → Ends x r → Ends x (q ++ r)
+past q {x} (p, e) = (q ++ p, ap (λ (l : List ℕ). q ++ l) e ∙ sym (append-assoc q p x))
 
 pub rest-is : {x s : List ℕ} (e : ℕ) → Ends x s → e + length x ≡ length s → drop e s ≡ x
 rest-is {x} e (p, is) h = ap (drop e) is ∙ drop-at p x e (omega (arith, ap length is, length-append p x))
@@ -107,9 +107,9 @@ byte-from {v = v} (quoted.escape q) = parts.escape (unescaped.Byte v) (eight-esc
 -- ---- the literals
 
 tiled-ends : (q : Quote) (c x : List ℕ) {s : List ℕ} → s ≡ openingOf q ++ (c ++ (39 ∷ x)) → Ends x s
-tiled-ends q c x is = let t = behind (openingOf q) (behind c {x = x} {r = 39 ∷ x} (39 ∷ [], refl)) in (t .0, is ∙ t .1)
+tiled-ends q c x is = let t = past (openingOf q) (past c {x = x} {r = 39 ∷ x} (39 ∷ [], refl)) in (t .0, is ∙ t .1)
 
--- a text of the parts has its suffix behind them
+-- a text of the parts has its suffix after them
 tiled : (q : Quote) {s x : List ℕ} (c : List ℕ) {v : ℕ} → s ≡ openingOf q ++ (c ++ (39 ∷ x)) → Content q c v → opt SUFFIX x
     → Tiled q s (length s - length x) v
 tiled q {s} {x} c is inner ending =

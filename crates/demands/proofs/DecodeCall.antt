@@ -19,8 +19,8 @@ use Rattle.string.specs.String.{stringKind, stringRead, stringValue}
 use Rattle.string.specs.Decode.{Decode, returned, written, refusal, ofReading, stringDecoded, bufferOf, bufferAfter}
 use Rattle.string.proofs.Refused.{refused-in}
 use Rattle.string.proofs.Values.{value-short}
-use Rattle.input.specs.Checks.{textFault}
-use Rattle.input.proofs.Checks.{long-fault, utf8-fault, no-fault, fault-passed}
+use Rattle.text_check.specs.Checks.{textFault}
+use Rattle.text_check.proofs.Checks.{long-fault, utf8-fault, no-fault, fault-passed}
 use Rattle.literal.specs.Decodes.{checkedDecode, checkedBuffer, kindCoded, decodeBy, decodeBufferBy, decodeAt, decodeBuffer}
 use Rattle.literal.specs.declared.KindFound.{KindFound}
 use Rattle.literal.specs.declared.KindFound.the-variants as found

@@ -26,7 +26,7 @@ answers s f =
       byte = entry 6 (omega arith);
       byte-string = entry 7 (omega arith);
       c-string = entry 8 (omega arith);
-      value = λ code most v. fine-value code most s v f;
+      value = λ code largest v. fine-value code largest s v f;
       decoded = λ k room. fine-decode k room s f;
       buffer = λ k buf. fine-buffer k s buf f;
     }

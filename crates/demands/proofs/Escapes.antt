@@ -14,7 +14,7 @@ use Rattle.parse.specs.Class.{classOf}
 use Rattle.utf8.specs.Utf8.{encode}
 use Rattle.utf8.proofs.Laws.{is-row1}
 use Rattle.escape.specs.Allows as allows
-use Rattle.escape.specs.Escape.{letterOf}
+use Rattle.escape.specs.Escape.{simpleEscapeOf}
 use Rattle.escape.specs.Pieces.{Hexes, one, more, Esc, letter, nul, hex, uni}
 use Rattle.escape.specs.declared.Allowed.{Allowed}
 use Rattle.escape.specs.declared.Unescaped.{Unescaped}
@@ -54,7 +54,7 @@ plain-lows (c ∷ us) z t = rw (T-true (LOW c) (and-l (LOW c) (all LOW us) t)) (
 plain-group : (b : ℕ) (us z : List ℕ) → classOf b < 16 → T (all LOW us) → plain (b ∷ (us ++ z)) ≡ b ∷ plain z
 plain-group b us z h t = rw (not-underscore b h) (ap (λ (l : List ℕ). b ∷ l) (plain-lows us z t))
 
--- the number of digits behind others
+-- the number of digits after others
 number-append : (a : ℕ) (d e : List ℕ) → numberFrom 16 a (plain (d ++ e)) ≡ numberFrom 16 (numberFrom 16 a (plain d)) (plain e)
 number-append a [] e = refl
 number-append a (c ∷ d) e = go (LOW c) (λ b. number-append b d e)
@@ -95,7 +95,7 @@ groups-from (more {n} {d} {v = v} b us m h a e f) =
           (sym (ap (λ (l : List ℕ). numberFrom 16 v (plain (b ∷ l))) (sym (append-nil us)) ∙ number-group v b us [] h t)),
     )
 
--- groups behind others
+-- groups after others
 groups-on : (n : ℕ) (d : List ℕ) {m : ℕ} {p : List ℕ} {v : ℕ} → HEX-GROUPS n d → Hexes m p v → Hexes (m + n) (p ++ d) (numberFrom 16 v (plain d))
 groups-on zero d g x = rw (g, append-nil, add-zero) x
 groups-on (suc n) d {m} {p} {v} (w, q, e, (b, is, h), (us, z, f, t, g)) x =
@@ -146,8 +146,8 @@ some-value k v h = rw (ne-eqb v 0 (λ e. omega arith)) (and-none (not (allows.al
 two-digits : (a b : ℕ) → classOf a < 16 → classOf b < 16 → classOf b + 16 * classOf a ≡ digitValue a * 16 + digitValue b
 two-digits a b h g = rw (value-is a h, value-is b g) (omega arith)
 
-letter-means : (k : Allowed) (b : ℕ) → (letterOf b ≡ 0 → ⊥) → Meant k (92 ∷ b ∷ []) (Byte (letterOf b))
-unfolding letterOf
+letter-means : (k : Allowed) (b : ℕ) → (simpleEscapeOf b ≡ 0 → ⊥) → Meant k (92 ∷ b ∷ []) (Byte (simpleEscapeOf b))
+unfolding simpleEscapeOf
 letter-means k b =
     let P : ℕ → Type 0 = λ c. (c ≡ 0 → ⊥) → Meant k (92 ∷ b ∷ []) (Byte c) in
     cond-eq P b 39 (λ e h. rw e (quote 39 apostrophe)) λ e.
@@ -172,7 +172,7 @@ esc-means (uni {n} {d} {t} {v} u h l z sc e) =
 
 -- and the other way round
 quote-stands : {k : Allowed} {t : List ℕ} {v : ℕ} → QUOTE-ESCAPE t v → Esc k t (Byte v)
-unfolding letterOf
+unfolding simpleEscapeOf
 quote-stands apostrophe = letter 39 (λ e. omega arith)
 quote-stands quotation-mark = letter 34 (λ e. omega arith)
 
@@ -181,7 +181,7 @@ has-nul true e = refl
 has-nul false e = clash refl e
 
 simple-stands : {k : Allowed} {t : List ℕ} {v : ℕ} → COMMON-ESCAPE t v → NoNul k v → Esc k t (Byte v)
-unfolding letterOf
+unfolding simpleEscapeOf
 simple-stands lf z = letter 110 (λ e. omega arith)
 simple-stands cr z = letter 114 (λ e. omega arith)
 simple-stands ht z = letter 116 (λ e. omega arith)

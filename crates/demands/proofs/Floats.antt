@@ -27,14 +27,14 @@ use Rattle.float.proofs.Complete.{complete, rest-stops, whole-longest, no-perio
 use Rattle.grammar.specs.Notation.{Lang, Class, begins, byte, _∪_, one, many, text, _·_, _or_, opt, Longest}
 use Rattle.grammar.specs.Suffixes.{DEC-DIGIT, LOW, E, SUFFIX, SUFFIX-NO-E}
 use Rattle.grammar.specs.Numbers.{SIGN, DEC-LITERAL, FLOAT-EXPONENT, POINT-PART, FRACTION-PART, EXPONENT-PART, FLOAT-LITERAL}
-use Rattle.grammar.specs.Values.{before, behind, powered, floatValue}
+use Rattle.grammar.specs.Values.{before, after, powered, floatValue}
 use Rattle.grammar.specs.Meaning.{float, is-float}
-use Rattle.grammar.proofs.Scan.{takeWhile, dropWhile, any, suffixOk, Run, behindSign, behindE, behindFraction, behindPoint, behindWhole, floatParts, floatOk}
+use Rattle.grammar.proofs.Scan.{takeWhile, dropWhile, any, suffixOk, Run, afterSign, afterE, afterFraction, afterPoint, afterWhole, floatParts, floatOk}
 use Rattle.grammar.proofs.Runs.{T-true, true-T, T-not, and-i, or-l, or-r, or-e, span-only, all-append, mixed-all}
 use Rattle.grammar.proofs.Integers.{Dec, dec-open, dec-all, dec-apart}
 use Rattle.grammar.proofs.Floats.{float-iff}
 use Rattle.demands.specs.Demand1.{Readable}
-use Rattle.scaling.specs.Scaled.{part}
+use Rattle.form_decimal.specs.Scaled.{part}
 use Rattle.demands.proofs.Found.{Found}
 use Rattle.demands.proofs.Classes.{dec-is, decimal-is, digit-is, all-to, all-from, stops-to, stops-from, some-to, some-from}
 use Rattle.demands.proofs.Suffixes.{fault-scan, suffix-is, e-is, ending-is}
@@ -58,28 +58,28 @@ no-sign [] suf d m = absurd (omega arith)
 no-sign (c ∷ ds) suf d m = digit-sign c (d .0)
 
 module _ (w f ds suf : List ℕ) (d : All (digit 10) ds) (m : run (only 95) ds < length ds) (l : Stops (digit 10) suf) (o : suffixFault suf ≡ 0) where
-  sign-scan : (n : Bool) → T (behindSign w f n (ds ++ suf) .ok)
+  sign-scan : (n : Bool) → T (afterSign w f n (ds ++ suf) .ok)
   sign-scan n =
       let h = run-ends ds suf d l in
       rw (h .0, h .1) (and-i (any DEC-DIGIT ds) _ (some-from DEC-DIGIT 10 dec-is ds d m) (fault-scan suf o))
 
-  e-scan : (sign : List ℕ) → Sign sign → T (behindE w f (sign ++ (ds ++ suf)) .ok)
+  e-scan : (sign : List ℕ) → Sign sign → T (afterE w f (sign ++ (ds ++ suf)) .ok)
   unfolding SIGN
   e-scan sign unsigned = rw (no-sign ds suf d m) (sign-scan false)
   e-scan sign plus = sign-scan false
   e-scan sign minus = sign-scan true
 
--- behind the fraction
+-- after the fraction
 rest-scan : (p : Bool) (w f ex suf : List ℕ) → Exponent ex → suffixFault suf ≡ 0 → Stops (digit 10) suf
-    → (ex ≡ [] → startsE suf 0 ≡ false) → (ex ≡ [] → T p) → T (behindFraction p w f (ex ++ suf) .ok)
+    → (ex ≡ [] → startsE suf 0 ≡ false) → (ex ≡ [] → T p) → T (afterFraction p w f (ex ++ suf) .ok)
 rest-scan p w f ex suf (no-exponent e) o l n t = rw (e, sym (e-is suf) ∙ n e) (and-i p (suffixOk suf) (t e) (fault-scan suf o))
 rest-scan p w f ex suf (exponent letter sign ds e q g d m) o l n t =
     let b : E letter ≡ true = ap (begins E) (sym e) ∙ sym (e-is ex) ∙ q in
     rw (e, b, append-assoc) (e-scan w f ds suf d m l o sign g)
 
--- behind the period
+-- after the period
 point-scan : (w ds ex suf : List ℕ) → All (digit 10) ds → Stops (only 95) ds → Exponent ex → suffixFault suf ≡ 0 → Stops (digit 10) suf
-    → (ex ≡ [] → startsE suf 0 ≡ false) → (ds ≡ [] → (ex ≡ []) × (suf ≡ [])) → T (behindPoint w (ds ++ (ex ++ suf)) .ok)
+    → (ex ≡ [] → startsE suf 0 ≡ false) → (ds ≡ [] → (ex ≡ []) × (suf ≡ [])) → T (afterPoint w (ds ++ (ex ++ suf)) .ok)
 unfolding only
 point-scan w [] ex suf d u x o l n b = let z = b refl in rw (z .0, z .1) tt
 point-scan w (c ∷ ds) ex suf d u x o l n b =
@@ -103,7 +103,7 @@ parts-scan {whole} {frac} {ex} {suf} p =
     and-i (begins DEC-DIGIT (whole ++ (frac ++ (ex ++ suf)))) _ (first-scan whole (frac ++ (ex ++ suf)) (p .first))
     (rw (h .0, h .1) (go (p .fraction)))
   where
-    go : Fraction frac → T (behindWhole whole (frac ++ (ex ++ suf)) .ok)
+    go : Fraction frac → T (afterWhole whole (frac ++ (ex ++ suf)) .ok)
     go (no-fraction e) =
         rw (e, no-point (ex ++ suf) (no-period p e))
         (rest-scan false whole [] ex suf (p .exponent) (p .suffix) (p .longest) (p .no-e) (λ z. p .some e z))
@@ -275,7 +275,7 @@ opened s i = go (i .ending)
     go (inr (inl m)) = frac (m .0) (m .1)
     go (inr (inr m)) = expo (m .0) (m .1)
 
--- the text is the parts one behind the other
+-- the text is the parts one after the other
 whole-text : (s : List ℕ) (i : FLOAT-LITERAL s) (o : Opened (i .part) (i .suffix)) → s ≡ o .whole ++ (o .frac ++ (o .ex ++ i .suffix))
 whole-text s i o =
     i .longest .split ∙ ap (λ (u : List ℕ). u ++ i .suffix) (o .is) ∙ append-assoc (o .whole) (o .frac ++ o .ex) (i .suffix)
@@ -283,8 +283,8 @@ whole-text s i o =
 
 -- ---- the number
 
--- what stands before and behind the first byte of a set
-seam : (f : Class) (u v : List ℕ) → All (λ c. not (f c)) u → (v ≡ []) ⊎ T (begins f v) → (before f (u ++ v) ≡ u) × (behind f (u ++ v) ≡ drop 1 v)
+-- what stands before and after the first byte of a set
+seam : (f : Class) (u v : List ℕ) → All (λ c. not (f c)) u → (v ≡ []) ⊎ T (begins f v) → (before f (u ++ v) ≡ u) × (after f (u ++ v) ≡ drop 1 v)
 seam f [] [] a h = (refl, refl)
 seam f [] (c ∷ v) a (inl e) = absurd (cons≢nil e)
 seam f [] (c ∷ v) a (inr t) = rw (T-true (f c) t) (refl, refl)

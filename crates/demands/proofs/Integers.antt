@@ -37,7 +37,7 @@ use Rattle.grammar.proofs.Runs.{T-true, true-T, and-l, and-r, and-i, or-l, span
 use Rattle.grammar.proofs.Integers.{dec-open, dec-make, dec-all, digits-ok, prefix-is, integer-iff}
 use Rattle.demands.specs.Demand1.{Readable}
 use Rattle.demands.specs.Demand2.{GivesInteger}
-use Rattle.scaling.specs.Scaled.{part}
+use Rattle.form_decimal.specs.Scaled.{part}
 use Rattle.demands.proofs.ValueCall.{fine-value}
 use Rattle.demands.proofs.Found.{Found}
 use Rattle.demands.proofs.Classes.{T-false, DigitsOf, bin-is, oct-is, dec-is, hex-digit-is, decimal-is, digit-is, value-is, all-to, all-from, stops-to, stops-from, some-to, some-from}
@@ -136,9 +136,9 @@ run-most p [] v a = omega arith
 run-most p (c ∷ u) v a = rw (a .0) (omega (arith, run-most p u v (a .1)))
 
 -- the parts of a text are its longest
-most : {base : ℕ} {pre main suf : List ℕ} → IntegerParts base pre main suf → (q y : List ℕ) → pre ++ (main ++ suf) ≡ q ++ y → INTEGER-PART q
+largest : {base : ℕ} {pre main suf : List ℕ} → IntegerParts base pre main suf → (q y : List ℕ) → pre ++ (main ++ suf) ≡ q ++ y → INTEGER-PART q
     → length q ≤ length (pre ++ main)
-most {base} {pre} {main} {suf} h q y e i =
+largest {base} {pre} {main} {suf} h q y e i =
     ⊎-elim (λ b.
     let j : n .base ≡ base = sym b ∙ ap baseAt (sym w) ∙ h .plain in
     let l : length (n .pre) ≡ length pre = prefix-length (n .prefix) ∙ ap prefixIn j ∙ sym (prefix-length (h .prefix)) in
@@ -194,7 +194,7 @@ literal {pre = pre} {main} {suf} h =
       longest = record {
         split = sym (append-assoc pre main suf);
         is = numeral-close (h .prefix) main (h .digits) (h .some) (h .first);
-        most = most h;
+        most = largest h;
       };
       ending = ending-is suf .0 (h .suffix, h .no-e);
       free = integer-iff (pre ++ (main ++ suf)) .0 (parts-scan (h .prefix) h) .free;
@@ -301,7 +301,7 @@ pub record HasParts (s : List ℕ) : Type 0 where
   pub parts : IntegerParts base pre main suf
   pub text : s ≡ pre ++ (main ++ suf)
 
--- of a prefix or none and the run of digits behind it
+-- of a prefix or none and the run of digits after it
 scan-parts : {base : ℕ} {pre : List ℕ} (d : Class) (s t : List ℕ) → Prefixed base pre → DigitsOf d base → s ≡ pre ++ t → baseAt s ≡ base
     → decDigit (getD (pre ++ takeWhile (d ∪ LOW) t) 0 0) ≡ true → T (digitsOk d t) → HasParts s
 scan-parts {base} {pre} d s t p k e b f ok =

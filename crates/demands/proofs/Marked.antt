@@ -13,18 +13,18 @@ use Rattle.suffix.specs.Suffix.{suffixFault, faultFrom, suffixStart}
 use Rattle.utf8.specs.Utf8.{encode}
 use Rattle.utf8.specs.Decode.{lengthFrom, decode2, decode3, decode4, chosen3, chosen4, rest2, rest3, rest4, decodeBy, decode}
 use Rattle.utf8.specs.Valid.{charsWithin, isUtf8}
-use Rattle.utf8.specs.Cut.{tail, isBoundary}
-use Rattle.escape.specs.Escape.{letterOf, xByte, xEscape, escapeBy, escapeOf}
+use Rattle.utf8.specs.Cut.{continuation, isBoundary}
+use Rattle.escape.specs.Escape.{simpleEscapeOf, xByte, xEscape, escapeBy, escapeOf}
 use Rattle.body.specs.Step.{lineBreakOf, backslashOf, plainOf, stepOf}
 use Rattle.body.specs.Body.{bodyFrom, bodyBy}
 use Rattle.body.specs.Quote.{suffixed, stringOf}
-use Rattle.single_quote.specs.Content.{special, quoteAt}
+use Rattle.character_quote.specs.Content.{special, quoteAt}
 use Rattle.character.specs.Single.{firstAt, singleAt, charRead}
 use Rattle.string.specs.String.{openingBy, stringRead, stringValue}
 use Rattle.integer.specs.Integer.{baseAt, prefixLen, mainLen, afterSuffix, afterDigits, integerOf, integerAt, integerRead}
 use Rattle.integer_value.specs.Value.{number}
-use Rattle.entries.specs.Entries.{startsFloat}
-use Rattle.input.specs.Checks.{textFault}
+use Rattle.dispatch.specs.Entries.{startsFloat}
+use Rattle.text_check.specs.Checks.{textFault}
 use Rattle.literal.specs.Readings.{numberRead, byteOrStringRead, anyBy, anyRead, entryRead, readAt}
 use Rattle.float.specs.Float.{notInteger, afterNumber, signEnd, noDigit, afterFraction, badFraction, afterInteger, floatRead}
 use Rattle.grammar.specs.Notation.{bytes}
@@ -34,15 +34,15 @@ use Rattle.grammar.specs.Values.{digitValue, numberIn}
 use Rattle.buffer.specs.Digits.{decimal, hexDigit, hexDigits}
 use Rattle.buffer.proofs.Decimals.{last, more}
 use Rattle.form.specs.Reduced.{zeros, strip, reduce}
-use Rattle.form.specs.Escapes.{letterFor, asciiForm, byteForm}
+use Rattle.form.specs.Escapes.{escapeLetter, asciiForm, byteForm}
 use Rattle.form.specs.Form.{integerForm, reducedForm, formOf}
-use Rattle.scaling.specs.Scaled.{floatAt}
+use Rattle.form_decimal.specs.Scaled.{floatAt}
 use Rattle.settle.specs.Settled.{formed, measured, measureAt, settleAt, formAt, settleBuffer}
 use Rattle.demands.specs.Demand3.{Given}
 use Rattle.demands.specs.Marked.{MarkedReadings, MarkedForms, Marked}
 
 pub marked-readings : MarkedReadings
-unfolding encode lengthFrom decode2 decode3 decode4 chosen3 chosen4 rest2 rest3 rest4 decodeBy decode charsWithin isUtf8 textFault entryRead readAt except only classOf digit blank suffixRest decDigit startsE suffixFault faultFrom suffixStart tail isBoundary letterOf xByte xEscape escapeBy escapeOf lineBreakOf backslashOf plainOf stepOf bodyFrom bodyBy suffixed stringOf special quoteAt firstAt singleAt charRead openingBy stringRead baseAt prefixLen mainLen afterSuffix afterDigits integerOf integerAt integerRead startsFloat numberRead anyBy anyRead
+unfolding encode lengthFrom decode2 decode3 decode4 chosen3 chosen4 rest2 rest3 rest4 decodeBy decode charsWithin isUtf8 textFault entryRead readAt except only classOf digit blank suffixRest decDigit startsE suffixFault faultFrom suffixStart continuation isBoundary simpleEscapeOf xByte xEscape escapeBy escapeOf lineBreakOf backslashOf plainOf stepOf bodyFrom bodyBy suffixed stringOf special quoteAt firstAt singleAt charRead openingBy stringRead baseAt prefixLen mainLen afterSuffix afterDigits integerOf integerAt integerRead startsFloat numberRead anyBy anyRead
 marked-readings = record { no-digits = refl; lone-backslash = refl; three-quotes = refl; starting-with-e = refl; cut-escape = refl; cut-escape-suffixed = refl }
 
 -- digit by digit: computed as it is defined, `decimal` would count down from the number
@@ -67,7 +67,7 @@ gives {f = f} m e buf l =
     record { answer = rw (m, h); bytes = rw (m, h, e) }
 
 pub marked-forms : MarkedForms
-unfolding encode lengthFrom decode2 decode3 decode4 chosen3 chosen4 rest2 rest3 rest4 decodeBy decode charsWithin isUtf8 textFault entryRead readAt except only classOf digit blank suffixRest decDigit startsE suffixFault faultFrom suffixStart plainOf stepOf bodyFrom bodyBy suffixed stringOf openingBy stringRead baseAt prefixLen mainLen afterSuffix afterDigits integerOf integerAt integerRead startsFloat numberRead anyBy anyRead byteOrStringRead stringValue number signEnd noDigit notInteger afterNumber afterFraction badFraction afterInteger floatRead floatAt SIGN LOW digitValue numberIn zeros strip reduce letterFor asciiForm byteForm hexDigit hexDigits integerForm reducedForm formOf measured measureAt settleAt formAt
+unfolding encode lengthFrom decode2 decode3 decode4 chosen3 chosen4 rest2 rest3 rest4 decodeBy decode charsWithin isUtf8 textFault entryRead readAt except only classOf digit blank suffixRest decDigit startsE suffixFault faultFrom suffixStart plainOf stepOf bodyFrom bodyBy suffixed stringOf openingBy stringRead baseAt prefixLen mainLen afterSuffix afterDigits integerOf integerAt integerRead startsFloat numberRead anyBy anyRead byteOrStringRead stringValue number signEnd noDigit notInteger afterNumber afterFraction badFraction afterInteger floatRead floatAt SIGN LOW digitValue numberIn zeros strip reduce escapeLetter asciiForm byteForm hexDigit hexDigits integerForm reducedForm formOf measured measureAt settleAt formAt
 marked-forms =
     record {
       zero-x = gives refl refl;

@@ -5,8 +5,8 @@ use mathlib.Core.Logic.{_⊎_, inl, inr}
 use mathlib.Core.List.{List, _∷_}
 use Prim.Native.Nat.{ℕ}
 use Rattle.err.specs.Outcome.{Place, none}
-use Rattle.input.specs.Checks.{textFault}
-use Rattle.input.proofs.Checks.{fault-is}
+use Rattle.text_check.specs.Checks.{textFault}
+use Rattle.text_check.proofs.Checks.{fault-is}
 use Rattle.demands.specs.Demand1.{OneOf, Numbered}
 
 -- 43 or 44, of a call that adds these and more

@@ -9,8 +9,8 @@ use lib.ListN.{length}
 use Rattle.err.specs.Outcome.{Outcome, refused, accepted}
 use Rattle.scan.proofs.Cases.{cond-eq, by-lt}
 use Rattle.utf8.specs.Utf8.{Utf8}
-use Rattle.input.specs.Checks.{textFault}
-use Rattle.input.proofs.Checks.{fault-passed}
+use Rattle.text_check.specs.Checks.{textFault}
+use Rattle.text_check.proofs.Checks.{fault-passed}
 use Rattle.literal.specs.Readings.{entryRead, readAt}
 use Rattle.literal.proofs.Inside.{entry-inside, start-inside}
 use Rattle.literal.proofs.Refusals.{entry-refused}

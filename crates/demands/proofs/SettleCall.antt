@@ -16,12 +16,12 @@ use Rattle.grammar.specs.Meaning as worth
 use Rattle.form.specs.Form.{formOf, faultOf}
 use Rattle.form.specs.Reduced.{reduce}
 use Rattle.literal.specs.Readings.{readAt}
-use Rattle.bare_form.specs.Worths.{worthOf}
+use Rattle.form_reading.specs.Worths.{worthOf}
 use Rattle.settle.proofs.Forms.{same-form}
 use Rattle.settle.specs.Settled.{FormAnswer, returned, formed, refusal, measured, measureOf, measureAt, fitted, settleAt, formBy, formAt, settleBuffer}
 use Rattle.integer_value.specs.Value.{Valued}
 use Rattle.numbers.specs.Numbers.{readingNumbers}
-use Rattle.desk.specs.Code.{codeOf, valueAfter}
+use Rattle.c_api.specs.ReturnValue.{returnValue, valueAfter}
 use Rattle.demands.specs.Demand1.{SettleAnswered, SettleAnswers, NumberAnswers}
 use Rattle.demands.proofs.ReadCall.{Coded, coded}
 
@@ -126,10 +126,10 @@ number-answers =
     record {
       reading = λ code s h. ap readingNumbers h;
       no-reading = λ code s h. ap readingNumbers h;
-      value = λ code s h. (ap (codeOf (λ v. 0)) h, λ before. ap (λ (v : Valued). valueAfter v before) h);
-      no-value = λ code s h. (ap (codeOf (λ v. 0)) h, λ before. ap (λ (v : Valued). valueAfter v before) h);
-      bytes = λ code room s h. ap (codeOf (λ n. n)) h;
-      no-bytes = λ code room s h. ap (codeOf (λ n. n)) h;
-      form = λ room s h. ap (codeOf (λ form. form .1)) h;
-      no-form = λ room s h. ap (codeOf (λ form. form .1)) h;
+      value = λ code s h. (ap (returnValue (λ v. 0)) h, λ before. ap (λ (v : Valued). valueAfter v before) h);
+      no-value = λ code s h. (ap (returnValue (λ v. 0)) h, λ before. ap (λ (v : Valued). valueAfter v before) h);
+      bytes = λ code room s h. ap (returnValue (λ n. n)) h;
+      no-bytes = λ code room s h. ap (returnValue (λ n. n)) h;
+      form = λ room s h. ap (returnValue (λ form. form .1)) h;
+      no-form = λ room s h. ap (returnValue (λ form. form .1)) h;
     }

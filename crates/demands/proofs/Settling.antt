@@ -16,7 +16,7 @@ use Rattle.form.specs.Form.{formOf, faultOf}
 use Rattle.form.specs.Reduced.{reduce}
 use Rattle.form.proofs.Reduce.{too-far}
 use Rattle.literal.specs.Readings.{readAt}
-use Rattle.bare_form.specs.Worths.{worthOf}
+use Rattle.form_reading.specs.Worths.{worthOf}
 use Rattle.settle.proofs.Forms.{same-form}
 use Rattle.settle.specs.Settled.{FormAnswer, returned, formed, refusal, measured, measureOf, measureAt, fitted, settleAt, formAt, settleBuffer}
 use Rattle.demands.specs.Demand3.{Accepts, Given, TooLarge, PowerTooFar, TooLong, TooSmall}

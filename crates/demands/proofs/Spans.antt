@@ -24,14 +24,14 @@ use Rattle.grammar.specs.Meaning.{Worth}
 use Rattle.grammar.specs.Meaning as worth
 use Rattle.form.specs.Form.{formOf, faultOf}
 use Rattle.form.specs.Reduced.{reduce}
-use Rattle.input.specs.Checks.{textFault}
-use Rattle.input.proofs.Checks.{fault-passed, fault-is}
+use Rattle.text_check.specs.Checks.{textFault}
+use Rattle.text_check.proofs.Checks.{fault-passed, fault-is}
 use Rattle.literal.specs.Readings.{entryRead, readAt}
 use Rattle.literal.specs.Values.{checkedValue, largestIn, valueWithin, valueAt}
 use Rattle.literal.specs.Decodes.{checkedDecode, kindCoded, decodeBy, decodeAt}
 use Rattle.literal.specs.declared.KindFound.{KindFound}
 use Rattle.literal.proofs.Answers.{read-own}
-use Rattle.bare_form.specs.Worths.{worthOf}
+use Rattle.form_reading.specs.Worths.{worthOf}
 use Rattle.settle.specs.Settled.{FormAnswer, measured, measureOf, measureAt, fitted, settleAt}
 use Rattle.demands.specs.Demand1.{Numbered, Answered, SpanBy, SpanAnswers}
 use Rattle.demands.proofs.ReadCall.{read-answers}
@@ -55,8 +55,8 @@ module _ (code : ℕ) (s : List ℕ) where
       go (inr r) = r .1
 
   -- a refusal of the reading itself
-  told : {n : ℕ} {p : Place} → readAt code s ≡ refused n p → SpanBy code s n p
-  told h = ((λ _. h), read-none h)
+  known : {n : ℕ} {p : Place} → readAt code s ≡ refused n p → SpanBy code s n p
+  known h = ((λ _. h), read-none h)
 
   -- 43 and 44
   unread : (textFault s ≡ 0 → ⊥) → SpanBy code s (textFault s) none
@@ -68,27 +68,27 @@ module _ (code : ℕ) (s : List ℕ) where
 
   -- what is read is the entry's
   own : code ≤ 8 → textFault s ≡ 0 → {n : ℕ} {p : Place} → entryRead code s ≡ refused n p → SpanBy code s n p
-  own c z h = let f = fault-passed s z in told (read-own code s c (f .0) (f .1) ∙ h)
+  own c z h = let f = fault-passed s z in known (read-own code s c (f .0) (f .1) ∙ h)
 
 -- ---- the value call
 
-value-spanned : (most : ℕ) (s : List ℕ) → textFault s ≡ 0 → Spanned 2 s (integerLitValue most s)
+value-spanned : (largest : ℕ) (s : List ℕ) → textFault s ≡ 0 → Spanned 2 s (integerLitValue largest s)
 unfolding integerLitValue entryRead
-value-spanned most s z = go (integerRead s) refl
+value-spanned largest s z = go (integerRead s) refl
   where
     n : ℕ
     n = number (baseAt s) (mainPart s)
 
-    go : (o : Outcome) → integerRead s ≡ o → Spanned 2 s (valued.ofReading o (bounded most n))
+    go : (o : Outcome) → integerRead s ≡ o → Spanned 2 s (valued.ofReading o (bounded largest n))
     go (refused m p) h = own 2 s (omega arith) z h
-    go (accepted k e vs) h = cond-in (Spanned {A = ℕ} 2 s) (leb n most) (λ t. tt) (λ t. added 2 s (omega arith))
+    go (accepted k e vs) h = cond-in (Spanned {A = ℕ} 2 s) (leb n largest) (λ t. tt) (λ t. added 2 s (omega arith))
 
 value-at : (code : ℕ) (s : List ℕ) → Spanned 2 s (valueAt code s)
 unfolding valueAt checkedValue
 value-at code s = go (largestIn (integerCoded code))
   where
     go : (l : Largest) → Spanned 2 s (valueWithin l s)
-    go (Value most) = cond-eq (Spanned {A = ℕ} 2 s) (textFault s) 0 (value-spanned most s) (unread 2 s)
+    go (Value largest) = cond-eq (Spanned {A = ℕ} 2 s) (textFault s) 0 (value-spanned largest s) (unread 2 s)
     go NoValues = added 2 s (omega arith)
 
 -- ---- decoding
@@ -159,7 +159,7 @@ unfolding measureAt
 measure-at s = go (readAt 0 s) refl
   where
     go : (o : Outcome) → readAt 0 s ≡ o → Spanned 0 s (measureOf s o)
-    go (refused n p) h = told 0 s h
+    go (refused n p) h = known 0 s h
     go (accepted k e vs) h = measured-spanned s k (worthOf k s vs) (drop e s)
 
 settle-at : (s : List ℕ) (room : ℕ) → Spanned 0 s (settleAt s room)

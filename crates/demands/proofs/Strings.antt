@@ -15,11 +15,11 @@ use Rattle.escape.specs.declared.Allowed.the-variants.{Text, Bytes, C}
 use Rattle.raw.specs.Content.{RawContent}
 use Rattle.string.specs.String.{stringKind, stringRead, stringValue}
 use Rattle.string.specs.Decode.{written}
-use Rattle.string.specs.Parts.{letterOf, hashes, QuotedParts, RawParts, Tiled, as-quoted, as-raw}
+use Rattle.string.specs.Parts.{kindLetter, hashes, QuotedParts, RawParts, Tiled, as-quoted, as-raw}
 use Rattle.string.proofs.Sound.{sound}
 use Rattle.string.proofs.Complete.{complete}
 use Rattle.string.proofs.Decodes.{decode-written}
-use Rattle.input.proofs.Checks.{no-fault}
+use Rattle.text_check.proofs.Checks.{no-fault}
 use Rattle.literal.specs.Decodes.{checkedDecode, checkedBuffer, decodeAt, decodeBuffer}
 use Rattle.grammar.specs.Notation.{times}
 use Rattle.grammar.specs.Quoted.{Quoted, Raw, closing, STRING-LITERAL, RAW-STRING-LITERAL, BYTE-STRING-LITERAL, RAW-BYTE-STRING-LITERAL, C-STRING-LITERAL, RAW-C-STRING-LITERAL}
@@ -30,25 +30,25 @@ use Rattle.demands.specs.Demand2.{Gives, GivesBytes}
 use Rattle.demands.proofs.DecodeCall.{coded}
 use Rattle.demands.proofs.Found.{Found}
 use Rattle.demands.proofs.Suffixes.{suffix-is}
-use Rattle.demands.proofs.Characters.{Ends, behind, rest-is, start-is}
+use Rattle.demands.proofs.Characters.{Ends, past, rest-is, start-is}
 use Rattle.demands.proofs.Contents.{PIECE, RAW, pieces-of, content-of, hashes-same, raw-of, of-raw}
 
 -- the literals of a kind
 abbrev QUOTED : Allowed → List ℕ → List ℕ → List ℕ → Type 0
-QUOTED k = Quoted (PIECE k) (letterOf k ++ (34 ∷ []))
+QUOTED k = Quoted (PIECE k) (kindLetter k ++ (34 ∷ []))
 
 abbrev RAWS : Allowed → List ℕ → List ℕ → List ℕ → Type 0
-RAWS k = Raw (RAW k) (letterOf k ++ (114 ∷ []))
+RAWS k = Raw (RAW k) (kindLetter k ++ (114 ∷ []))
 
 -- ---- the parts
 
-quoted-text : (k : Allowed) (c x : List ℕ) → letterOf k ++ (34 ∷ (c ++ (34 ∷ x))) ≡ (letterOf k ++ (34 ∷ [])) ++ (c ++ (34 ∷ x))
-quoted-text k c x = sym (append-assoc (letterOf k) (34 ∷ []) (c ++ (34 ∷ x)))
+quoted-text : (k : Allowed) (c x : List ℕ) → kindLetter k ++ (34 ∷ (c ++ (34 ∷ x))) ≡ (kindLetter k ++ (34 ∷ [])) ++ (c ++ (34 ∷ x))
+quoted-text k c x = sym (append-assoc (kindLetter k) (34 ∷ []) (c ++ (34 ∷ x)))
 
 raw-text : (k : Allowed) (h : ℕ) (v x : List ℕ)
-    → letterOf k ++ (114 ∷ (hashes h ++ (34 ∷ (v ++ (34 ∷ (hashes h ++ x))))))
-    ≡ (letterOf k ++ (114 ∷ [])) ++ (times h 35 ++ (34 ∷ (v ++ closing h x)))
-raw-text k h v x = rw (← hashes-same h) (sym (append-assoc (letterOf k) (114 ∷ []) (hashes h ++ (34 ∷ (v ++ (34 ∷ (hashes h ++ x)))))))
+    → kindLetter k ++ (114 ∷ (hashes h ++ (34 ∷ (v ++ (34 ∷ (hashes h ++ x))))))
+    ≡ (kindLetter k ++ (114 ∷ [])) ++ (times h 35 ++ (34 ∷ (v ++ closing h x)))
+raw-text k h v x = rw (← hashes-same h) (sym (append-assoc (kindLetter k) (114 ∷ []) (hashes h ++ (34 ∷ (v ++ (34 ∷ (hashes h ++ x)))))))
 
 -- a raw body with hashes by either name
 same-body : (h : ℕ) (v x : List ℕ) → v ++ (34 ∷ (hashes h ++ x)) ≡ v ++ closing h x
@@ -88,12 +88,12 @@ module _ (k : Allowed) {s v x : List ℕ} where
   -- the suffix stands at the end
   quoted-ends : {c : List ℕ} → QuotedParts k s c v x → Ends x s
   quoted-ends {c} p =
-      let t = behind (letterOf k) (behind (34 ∷ c) {x = x} {r = 34 ∷ x} (34 ∷ [], refl)) in
+      let t = past (kindLetter k) (past (34 ∷ c) {x = x} {r = 34 ∷ x} (34 ∷ [], refl)) in
       (t .0, p .text ∙ t .1)
 
   raw-ends : {h : ℕ} → RawParts k s v x h → Ends x s
   raw-ends {h} p =
-      let t = behind (letterOf k) (behind (114 ∷ hashes h) (behind (34 ∷ v) {x = x} {r = 34 ∷ (hashes h ++ x)} (34 ∷ hashes h, refl))) in
+      let t = past (kindLetter k) (past (114 ∷ hashes h) (past (34 ∷ v) {x = x} {r = 34 ∷ (hashes h ++ x)} (34 ∷ hashes h, refl))) in
       (t .0, p .text ∙ t .1)
 
 -- ---- what decoding gives

@@ -21,15 +21,15 @@ use Rattle.types.specs.declared.Largest.the-variants.{Value, NoValues}
 use Rattle.integer.specs.Integer.{baseAt, mainPart, integerRead}
 use Rattle.integer.proofs.Refused.{refused-in}
 use Rattle.integer_value.specs.Value.{returned, refusal, number, ofReading, bounded, integerLitValue}
-use Rattle.input.specs.Checks.{textFault}
-use Rattle.input.proofs.Checks.{long-fault, utf8-fault, no-fault}
+use Rattle.text_check.specs.Checks.{textFault}
+use Rattle.text_check.proofs.Checks.{long-fault, utf8-fault, no-fault}
 use Rattle.literal.specs.Values.{checkedValue, largestIn, valueWithin, valueAt}
 use Rattle.demands.specs.Demand1.{Readable, ValueAnswered, ValueType, u8, u16, u32, u64, i8, i16, i32, i64, ValueAnswers}
 use Rattle.demands.proofs.Numbered.{text-refused, or-42}
 
 -- no largest value is above 64 bits
 abbrev Small : Largest → Type 0
-Small (Value most) = most < 2 ^ 64
+Small (Value largest) = largest < 2 ^ 64
 Small NoValues = Unit {0}
 
 small : (t : IntegerType) → Small (largestOf t)
@@ -50,23 +50,23 @@ small-in : (f : IntegerFound) → Small (largestIn f)
 small-in (found.Type t) = small t
 small-in found.Nothing = tt
 
-value-answered : (most : ℕ) (s : List ℕ) → most < 2 ^ 64 → ValueAnswered (length s) (integerLitValue most s)
+value-answered : (largest : ℕ) (s : List ℕ) → largest < 2 ^ 64 → ValueAnswered (length s) (integerLitValue largest s)
 unfolding integerLitValue
-value-answered most s l = go (integerRead s) refl
+value-answered largest s l = go (integerRead s) refl
   where
     n : ℕ
     n = number (baseAt s) (mainPart s)
 
-    go : (o : Outcome) → integerRead s ≡ o → ValueAnswered (length s) (ofReading o (bounded most n))
+    go : (o : Outcome) → integerRead s ≡ o → ValueAnswered (length s) (ofReading o (bounded largest n))
     go (refused m p) h = inl (refused-in s h)
     go (accepted k e vs) h =
-        cond-in (ValueAnswered (length s)) (leb n most) (λ t. let b = leb-true n most t in omega arith)
+        cond-in (ValueAnswered (length s)) (leb n largest) (λ t. let b = leb-true n largest t in omega arith)
         (λ t. inr (inr (inr (inr (inl refl))), refl))
 
-checked-answered : (most : ℕ) (s : List ℕ) → most < 2 ^ 64 → ValueAnswered (length s) (checkedValue most s)
+checked-answered : (largest : ℕ) (s : List ℕ) → largest < 2 ^ 64 → ValueAnswered (length s) (checkedValue largest s)
 unfolding checkedValue
-checked-answered most s l =
-    cond-eq (ValueAnswered (length s)) (textFault s) 0 (λ z. value-answered most s l)
+checked-answered largest s l =
+    cond-eq (ValueAnswered (length s)) (textFault s) 0 (λ z. value-answered largest s l)
     (λ z. or-42 (length s) (43 ∷ 44 ∷ 45 ∷ []) (textFault s) none (text-refused (length s) s (45 ∷ []) z))
 
 answered : (code : ℕ) (s : List ℕ) → ValueAnswered (length s) (valueAt code s)
@@ -74,12 +74,12 @@ unfolding valueAt
 answered code s = go (largestIn (integerCoded code)) (small-in (integerCoded code))
   where
     go : (l : Largest) → Small l → ValueAnswered (length s) (valueWithin l s)
-    go (Value most) h = checked-answered most s h
+    go (Value largest) h = checked-answered largest s h
     go NoValues h = inr (inl refl, refl)
 
 -- ---- the types that have values
 
-typed : {code most : ℕ} → ValueType code most → largestIn (integerCoded code) ≡ Value most
+typed : {code largest : ℕ} → ValueType code largest → largestIn (integerCoded code) ≡ Value largest
 unfolding integerCoded
 typed u8 = refl
 typed u16 = refl
@@ -91,7 +91,7 @@ typed i32 = refl
 typed i64 = refl
 
 -- no other code has
-untyped : (code : ℕ) → ((most : ℕ) → ValueType code most → ⊥) → largestIn (integerCoded code) ≡ NoValues
+untyped : (code : ℕ) → ((largest : ℕ) → ValueType code largest → ⊥) → largestIn (integerCoded code) ≡ NoValues
 unfolding integerCoded
 untyped code never =
     cond-eq P code 1 (λ e. is u8 e) λ a.
@@ -110,15 +110,15 @@ untyped code never =
     P : IntegerFound → Type 0
     P f = largestIn f ≡ NoValues
 
-    is : {A : Type 0} {c most : ℕ} → ValueType c most → code ≡ c → A
-    is {most = most} v e = absurd (never most (subst (λ (n : ℕ). ValueType n most) (sym e) v))
+    is : {A : Type 0} {c largest : ℕ} → ValueType c largest → code ≡ c → A
+    is {largest = largest} v e = absurd (never largest (subst (λ (n : ℕ). ValueType n largest) (sym e) v))
 
-bad-code : (code : ℕ) (s : List ℕ) → ((most : ℕ) → ValueType code most → ⊥) → valueAt code s ≡ refusal 42 none
+bad-code : (code : ℕ) (s : List ℕ) → ((largest : ℕ) → ValueType code largest → ⊥) → valueAt code s ≡ refusal 42 none
 unfolding valueAt
 bad-code code s h = rw (untyped code h)
 
-module _ (code most : ℕ) (s : List ℕ) (v : ValueType code most) where
-  l : largestIn (integerCoded code) ≡ Value most
+module _ (code largest : ℕ) (s : List ℕ) (v : ValueType code largest) where
+  l : largestIn (integerCoded code) ≡ Value largest
   l = typed v
 
   too-long : 65536 < length s → valueAt code s ≡ refusal 43 none
@@ -129,24 +129,24 @@ module _ (code most : ℕ) (s : List ℕ) (v : ValueType code most) where
   unfolding valueAt checkedValue
   not-utf8 h n = rw (l, utf8-fault s h n)
 
-  pub fine-value : Readable s → valueAt code s ≡ integerLitValue most s
+  pub fine-value : Readable s → valueAt code s ≡ integerLitValue largest s
   unfolding valueAt checkedValue
   fine-value f = rw (l, no-fault s (f .short) (f .utf8))
 
-own : (code most : ℕ) (s : List ℕ) {n : ℕ} {p : Place} → ValueType code most → Readable s
+own : (code largest : ℕ) (s : List ℕ) {n : ℕ} {p : Place} → ValueType code largest → Readable s
     → integerRead s ≡ refused n p → valueAt code s ≡ refusal n p
 unfolding integerLitValue
-own code most s l f h = rw (fine-value code most s l f, h)
+own code largest s l f h = rw (fine-value code largest s l f, h)
 
-no-value : (code most : ℕ) (s : List ℕ) {k e : ℕ} {vs : Values} → ValueType code most → Readable s
-    → integerRead s ≡ accepted k e vs → most < number (baseAt s) (mainPart s) → valueAt code s ≡ refusal 45 none
+no-value : (code largest : ℕ) (s : List ℕ) {k e : ℕ} {vs : Values} → ValueType code largest → Readable s
+    → integerRead s ≡ accepted k e vs → largest < number (baseAt s) (mainPart s) → valueAt code s ≡ refusal 45 none
 unfolding integerLitValue
-no-value code most s l f h g = rw (fine-value code most s l f, h, lt-leb (number (baseAt s) (mainPart s)) most g)
+no-value code largest s l f h g = rw (fine-value code largest s l f, h, lt-leb (number (baseAt s) (mainPart s)) largest g)
 
-fits : (code most : ℕ) (s : List ℕ) {k e : ℕ} {vs : Values} → ValueType code most → Readable s
-    → integerRead s ≡ accepted k e vs → number (baseAt s) (mainPart s) ≤ most → valueAt code s ≡ returned (number (baseAt s) (mainPart s))
+fits : (code largest : ℕ) (s : List ℕ) {k e : ℕ} {vs : Values} → ValueType code largest → Readable s
+    → integerRead s ≡ accepted k e vs → number (baseAt s) (mainPart s) ≤ largest → valueAt code s ≡ returned (number (baseAt s) (mainPart s))
 unfolding integerLitValue
-fits code most s l f h g = rw (fine-value code most s l f, h, le-leb (number (baseAt s) (mainPart s)) most g)
+fits code largest s l f h g = rw (fine-value code largest s l f, h, le-leb (number (baseAt s) (mainPart s)) largest g)
 
 pub value-answers : ValueAnswers
 value-answers =

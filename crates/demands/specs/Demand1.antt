@@ -21,12 +21,12 @@
 --   settle::measure               settledOf r ≡ measureAt text
 --   settle::settle                settledOf r ≡ settleAt text (length of out at entry), and out at exit ≡ settleBuffer text (out at entry)
 -- and the entries for C, with out at exit as above:
---   desk::keybasket_read          answer at exit ≡ readingNumbers (readAt entry text)
---   desk::keybasket_value         r ≡ codeOf (λ v. 0) (valueAt ty text), and value at exit ≡ valueAfter (valueAt ty text) (value at entry)
---   desk::keybasket_decode        r ≡ codeOf (λ n. n) (decodeAt entry text (length of out at entry))
---   desk::keybasket_settle        r ≡ codeOf (λ form. form .1) (settleAt text (length of out at entry))
---   desk::keybasket_integer_from_suffix  r ≡ integerFromSuffix name
---   desk::keybasket_float_from_suffix    r ≡ floatFromSuffix name
+--   c_api::keybasket_read          answer at exit ≡ readingNumbers (readAt entry text)
+--   c_api::keybasket_value         r ≡ returnValue (λ v. 0) (valueAt ty text), and value at exit ≡ valueAfter (valueAt ty text) (value at entry)
+--   c_api::keybasket_decode        r ≡ returnValue (λ n. n) (decodeAt entry text (length of out at entry))
+--   c_api::keybasket_settle        r ≡ returnValue (λ form. form .1) (settleAt text (length of out at entry))
+--   c_api::keybasket_integer_from_suffix  r ≡ integerFromSuffix name
+--   c_api::keybasket_float_from_suffix    r ≡ floatFromSuffix name
 -- "comes to an end": a contract is proved only of code that ends. "with the text untouched": the text is a shared slice, and the last clause of
 -- each contract says that at exit it is what it was at entry. The rest is said below, of the definitions that the contracts cite.
 -- Assumes nothing.
@@ -57,7 +57,7 @@ use Rattle.literal.specs.Decodes.{decodeAt, decodeBuffer}
 use Rattle.literal.specs.Suffixes.{integerFromSuffix, floatFromSuffix}
 use Rattle.settle.specs.Settled.{formed, measureAt, settleAt, formAt, settleBuffer}
 use Rattle.numbers.specs.Numbers.{readingNumbers, valueNumbers, placeNumbers}
-use Rattle.desk.specs.Code.{codeOf, valueAfter}
+use Rattle.c_api.specs.ReturnValue.{returnValue, valueAfter}
 
 -- a text that may be read: at most 65,536 bytes, and UTF-8
 pub record Readable (s : List ℕ) : Type 0 where
@@ -110,17 +110,17 @@ pub data ValueType : ℕ → ℕ → Type 0 where
 -- the value call likewise: every other code is refused with 42, and a number with 45 exactly where it is above the type's largest value
 pub record ValueAnswers : Type 0 where
   pub answered : (code : ℕ) (s : List ℕ) → ValueAnswered (length s) (valueAt code s)
-  pub bad-code : (code : ℕ) (s : List ℕ) → ((most : ℕ) → ValueType code most → ⊥) → valueAt code s ≡ refusal 42 none
-  pub too-long : (code most : ℕ) (s : List ℕ) → ValueType code most → 65536 < length s
+  pub bad-code : (code : ℕ) (s : List ℕ) → ((largest : ℕ) → ValueType code largest → ⊥) → valueAt code s ≡ refusal 42 none
+  pub too-long : (code largest : ℕ) (s : List ℕ) → ValueType code largest → 65536 < length s
       → valueAt code s ≡ refusal 43 none
-  pub not-utf8 : (code most : ℕ) (s : List ℕ) → ValueType code most → length s ≤ 65536 → (Utf8 s → ⊥)
+  pub not-utf8 : (code largest : ℕ) (s : List ℕ) → ValueType code largest → length s ≤ 65536 → (Utf8 s → ⊥)
       → valueAt code s ≡ refusal 44 none
-  pub own : (code most : ℕ) (s : List ℕ) {n : ℕ} {p : Place} → ValueType code most → Readable s
+  pub own : (code largest : ℕ) (s : List ℕ) {n : ℕ} {p : Place} → ValueType code largest → Readable s
       → integerRead s ≡ refused n p → valueAt code s ≡ refusal n p
-  pub no-value : (code most : ℕ) (s : List ℕ) {k e : ℕ} {vs : Values} → ValueType code most → Readable s
-      → integerRead s ≡ accepted k e vs → most < number (baseAt s) (mainPart s) → valueAt code s ≡ refusal 45 none
-  pub fits : (code most : ℕ) (s : List ℕ) {k e : ℕ} {vs : Values} → ValueType code most → Readable s
-      → integerRead s ≡ accepted k e vs → number (baseAt s) (mainPart s) ≤ most → valueAt code s ≡ returned (number (baseAt s) (mainPart s))
+  pub no-value : (code largest : ℕ) (s : List ℕ) {k e : ℕ} {vs : Values} → ValueType code largest → Readable s
+      → integerRead s ≡ accepted k e vs → largest < number (baseAt s) (mainPart s) → valueAt code s ≡ refusal 45 none
+  pub fits : (code largest : ℕ) (s : List ℕ) {k e : ℕ} {vs : Values} → ValueType code largest → Readable s
+      → integerRead s ≡ accepted k e vs → number (baseAt s) (mainPart s) ≤ largest → valueAt code s ≡ returned (number (baseAt s) (mainPart s))
 
 -- a code with decoded bytes: 5, 7 or 8
 abbrev pub Decodes : ℕ → Type 0
@@ -197,8 +197,8 @@ pub record SettleAnswers : Type 0 where
 abbrev pub SpanBy : ℕ → List ℕ → ℕ → Place → Type 0
 SpanBy code s n p = (n ≤ 41 → readAt code s ≡ refused n p) × (42 ≤ n → p ≡ none)
 
--- include/keybasket.h: "Spans are told by keybasket_read: for a value by entry 2, for decoding by the same entry, for settling by entry 0. From 42
--- on there is none."
+-- include/keybasket.h: "The span of 1 to 41 is what keybasket_read writes": for a value by entry 2, for decoding by the same entry, for settling by
+-- entry 0. "From 42 on there is no span".
 pub record SpanAnswers : Type 0 where
   pub value : (code : ℕ) (s : List ℕ) {n : ℕ} {p : Place} → valueAt code s ≡ refusal n p → SpanBy 2 s n p
   pub decode : (code room : ℕ) (s : List ℕ) {n : ℕ} {p : Place} → decodeAt code s room ≡ refusal n p → SpanBy code s n p
@@ -212,14 +212,14 @@ pub record NumberAnswers : Type 0 where
       → readingNumbers (readAt code s) ≡ k ∷ e ∷ valueNumbers vs
   pub no-reading : (code : ℕ) (s : List ℕ) {n : ℕ} {p : Place} → readAt code s ≡ refused n p → readingNumbers (readAt code s) ≡ 0 ∷ n ∷ placeNumbers p
   pub value : (code : ℕ) (s : List ℕ) {v : ℕ} → valueAt code s ≡ returned v
-      → (codeOf (λ v. 0) (valueAt code s) ≡ 0) × ((before : ℕ) → valueAfter (valueAt code s) before ≡ v)
+      → (returnValue (λ v. 0) (valueAt code s) ≡ 0) × ((before : ℕ) → valueAfter (valueAt code s) before ≡ v)
   pub no-value : (code : ℕ) (s : List ℕ) {n : ℕ} {p : Place} → valueAt code s ≡ refusal n p
-      → (codeOf (λ v. 0) (valueAt code s) ≡ 100000 + n) × ((before : ℕ) → valueAfter (valueAt code s) before ≡ before)
-  pub bytes : (code room : ℕ) (s : List ℕ) {n : ℕ} → decodeAt code s room ≡ written n → codeOf (λ n. n) (decodeAt code s room) ≡ n
+      → (returnValue (λ v. 0) (valueAt code s) ≡ 100000 + n) × ((before : ℕ) → valueAfter (valueAt code s) before ≡ before)
+  pub bytes : (code room : ℕ) (s : List ℕ) {n : ℕ} → decodeAt code s room ≡ written n → returnValue (λ n. n) (decodeAt code s room) ≡ n
   pub no-bytes : (code room : ℕ) (s : List ℕ) {n : ℕ} {p : Place} → decodeAt code s room ≡ refusal n p
-      → codeOf (λ n. n) (decodeAt code s room) ≡ 100000 + n
-  pub form : (room : ℕ) (s : List ℕ) {k n : ℕ} → settleAt s room ≡ formed k n → codeOf (λ form. form .1) (settleAt s room) ≡ n
-  pub no-form : (room : ℕ) (s : List ℕ) {n : ℕ} {p : Place} → settleAt s room ≡ refusal n p → codeOf (λ form. form .1) (settleAt s room) ≡ 100000 + n
+      → returnValue (λ n. n) (decodeAt code s room) ≡ 100000 + n
+  pub form : (room : ℕ) (s : List ℕ) {k n : ℕ} → settleAt s room ≡ formed k n → returnValue (λ form. form .1) (settleAt s room) ≡ n
+  pub no-form : (room : ℕ) (s : List ℕ) {n : ℕ} {p : Place} → settleAt s room ≡ refusal n p → returnValue (λ form. form .1) (settleAt s room) ≡ 100000 + n
 
 pub record Demand1 : Type 0 where
   pub read : ReadAnswers

@@ -31,7 +31,7 @@ use Rattle.grammar.specs.Decimal.{Decimal}
 use Rattle.grammar.specs.Values.{radixOf, numberIn, powered}
 use Rattle.grammar.specs.Meaning.{Worth, kindOf, Means}
 use Rattle.grammar.specs.Meaning as worth
-use Rattle.scaling.specs.Scaled.{part}
+use Rattle.form_decimal.specs.Scaled.{part}
 use Rattle.demands.specs.Demand1.{Readable, ValueType}
 
 -- of one text: what reading, value and decoding return is what the definitions transcribed from the Rust say. A reading holds kind, part positions,
@@ -49,8 +49,8 @@ pub record AsTranscribed (s : List ℕ) : Type 0 where
   pub byte : readAt 6 s ≡ byteRead s
   pub byte-string : readAt 7 s ≡ stringRead Bytes s
   pub c-string : readAt 8 s ≡ stringRead C s
-  -- from `IntegerLit::value`, at a type whose largest value is `most`
-  pub value : (code most : ℕ) → ValueType code most → valueAt code s ≡ integerLitValue most s
+  -- from `IntegerLit::value`, at a type whose largest value is `largest`
+  pub value : (code largest : ℕ) → ValueType code largest → valueAt code s ≡ integerLitValue largest s
   -- from the `value` of `StringLit`, `ByteStringLit` and `CStringLit`, written into a buffer that has `room` bytes or holds buf
   pub decoded : (k : Allowed) (room : ℕ) → decodeAt (stringKind k) s room ≡ stringDecoded k s room
   pub buffer : (k : Allowed) (buf : List ℕ) → decodeBuffer (stringKind k) s buf ≡ bufferAfter k s buf
@@ -85,7 +85,7 @@ pub record GivesInteger (s : List ℕ) (vs : Values) (n : ℕ) : Type 0 where
   pub values : vs ≡ digits marks
   pub radix : marks .base ≡ radixOf s
   pub number : numberIn (marks .base) (part (marks .start) (marks .end) s) ≡ n
-  pub at-each-type : (code most : ℕ) → ValueType code most → valueAt code s ≡ bounded most n
+  pub at-each-type : (code largest : ℕ) → ValueType code largest → valueAt code s ≡ bounded largest n
 
 -- a float's reading: the digits up to the first end, those after a period up to the second, and the exponent after an `e` up to the third
 pub record GivesFloat (s : List ℕ) (vs : Values) (d : Decimal) : Type 0 where

@@ -3,7 +3,7 @@ ghost use mathlib.Core.Path.{_≡_};
 ghost use mathlib.Core.Bool.{cond};
 ghost use Prim.Native.Nat.{_+_, _≤_};
 ghost use lib.ListN.{length, drop};
-ghost use Rattle.scan.specs.Run.{run, outs};
+ghost use Rattle.scan.specs.Run.{run, countNot};
 ghost use Rattle.parse.specs.Sets.{digit};
 
 // A decimal digit or `_`.
@@ -19,26 +19,28 @@ fn is_dec_or_underscore(b: u8) -> bool
     b <= b'9'
 }
 
-fn mark(b: u8) -> u8
+// 1 for a byte that is neither a decimal digit nor `_`, else 0.
+fn not_digit(b: u8) -> u8
     ensures { λ r. ⌜ (r ≤ 1) × (r ≡ cond (digit 10 b) 0 1) ⌝ }
 {
     if is_dec_or_underscore(b) { 0 } else { 1 }
 }
 
-// How many bytes are neither digits nor `_`; no exit on the way and a sum of one byte, so that LLVM vectorises it.
-fn marks(s: &[u8]) -> u8
+// How many bytes are neither digits nor `_`; branch-free, with a sum of one byte, so that LLVM vectorises it.
+fn count_not_digits(s: &[u8]) -> u8
     requires { ⌜ length (now s) ≤ 255 ⌝ }
-    ensures { λ r. ⌜ r ≡ outs (digit 10) (now (s .entry)) ⌝ }
+    ensures { λ r. ⌜ r ≡ countNot (digit 10) (now (s .entry)) ⌝ }
 {
     let mut n: u8 = 0;
     let mut i = 0;
     while i < s.len() {
-        n += mark(s[i]);
+        n += not_digit(s[i]);
         i += 1;
     }
     n
 }
 
+// Where the decimal digits and `_` from an offset on end, byte by byte.
 fn dec_end(s: &[u8], from: usize) -> usize
     requires { ⌜ from ≤ length (now s) ⌝ }
     ensures { λ r. ⌜ r ≡ from + run (digit 10) (drop from (now (s .entry))) ⌝ }
@@ -61,7 +63,7 @@ pub fn end_dec_digits(s: &[u8]) -> usize
     let mut i = 0;
     while 64 <= s.len() - i {
         let e = i + 64;
-        if marks(&s[i..e]) != 0 {
+        if count_not_digits(&s[i..e]) != 0 {
             return dec_end(s, i);
         }
         i = e;

@@ -17,7 +17,7 @@ use Rattle.utf8.specs.Cut.{isBoundary}
 use Rattle.escape.specs.Allows.{unicode, allowNul}
 use Rattle.escape.specs.declared.Allowed.{Allowed}
 use Rattle.escape.specs.declared.Unescaped.the-variants.{Byte}
-use Rattle.escape.specs.Escape.{value, bad, letterOf, xByte, xEscape, hexFrom, badStart, uHex, uInner, uBraced, uEscape, escapeBy, escapeOf}
+use Rattle.escape.specs.Escape.{value, bad, simpleEscapeOf, xByte, xEscape, hexFrom, badStart, uHex, uInner, uBraced, uEscape, escapeBy, escapeOf}
 use Rattle.escape.proofs.Hexes.{is-hex, not-hex}
 
 -- ---- `\x`
@@ -102,11 +102,11 @@ module _ (k : Allowed) (s : List ℕ) where
   too-short h = rw (lt-ltb _ _ h)
 
   module _ (h : 2 ≤ length s) where
-    pub one-letter : (l : ℕ) → l ≡ letterOf (getD s 1 0) → (l ≡ 0 → ⊥) → value (Byte l) 2 ≡ escapeOf k s
+    pub one-letter : (l : ℕ) → l ≡ simpleEscapeOf (getD s 1 0) → (l ≡ 0 → ⊥) → value (Byte l) 2 ≡ escapeOf k s
     unfolding escapeOf escapeBy
     one-letter l is e = rw (le-ltb _ _ h, ← is, ne-eqb _ _ e)
 
-    module _ (none : letterOf (getD s 1 0) ≡ 0) where
+    module _ (none : simpleEscapeOf (getD s 1 0) ≡ 0) where
       pub nul : getD s 1 0 ≡ 48 → allowNul k ≡ true → value (Byte 0) 2 ≡ escapeOf k s
       unfolding escapeOf escapeBy
       nul e a = rw (le-ltb _ _ h, none, eq-eqb _ _ e, a)

@@ -16,10 +16,10 @@ use Rattle.scan.proofs.Cases.{cond-in, cond-eq, cond-lt, clash, by-lt}
 use Rattle.scan.proofs.Runs.{run-le, run-stops, run-is, all-append}
 use Rattle.parse.specs.Class.{classOf}
 use Rattle.parse.proofs.Classes.{class-above, both}
-use Rattle.utf8.specs.Cut.{tail, isBoundary, Aligned}
+use Rattle.utf8.specs.Cut.{continuation, isBoundary, Aligned}
 use Rattle.utf8.proofs.Aligned.{aligned-at}
 use Rattle.escape.specs.Allows.{unicode, byteEscapes, allowNul}
-use Rattle.escape.specs.Escape.{Escaped, value, bad, letterOf, xByte, xEscape, Hex, number, fault, hexFrom, isScalar, uScalar, badStart, uHex, uInner, uBraced, uEscape, escapeBy, escapeOf}
+use Rattle.escape.specs.Escape.{Escaped, value, bad, simpleEscapeOf, xByte, xEscape, Hex, number, fault, hexFrom, isScalar, uScalar, badStart, uHex, uInner, uBraced, uEscape, escapeBy, escapeOf}
 use Rattle.escape.specs.Pieces.{Hexes, one, more, Esc, letter, nul, hex, uni}
 use Rattle.escape.specs.declared.Allowed.{Allowed}
 use Rattle.escape.specs.declared.Unescaped.{Unescaped}
@@ -86,7 +86,7 @@ module _ (k : Allowed) where
   u-read : {n : ℕ} {d : List ℕ} {v : ℕ} (x : List ℕ) → unicode k ≡ true → Hexes n d v → n ≤ 6
       → (not (allowNul k) && eqb v 0) ≡ false → isScalar v ≡ true
       → escapeOf k (92 ∷ 117 ∷ 123 ∷ ((d ++ (125 ∷ [])) ++ x)) ≡ value (Unicode v) (length d + 4)
-  unfolding letterOf uScalar except
+  unfolding simpleEscapeOf uScalar except
   u-read {n} {d} {v} x u h l z sc =
       let r : List ℕ = (d ++ (125 ∷ [])) ++ x in
       let s : List ℕ = 92 ∷ 117 ∷ 123 ∷ r in
@@ -101,15 +101,15 @@ module _ (k : Allowed) where
       ∙ ap (uHex k (length d + 4)) number-is
       ∙ rw (z, sc)
 
-  boundary : (a b : ℕ) (x : List ℕ) → tail (getD x 0 0) ≡ false → isBoundary (92 ∷ 120 ∷ a ∷ b ∷ x) 4 ≡ true
+  boundary : (a b : ℕ) (x : List ℕ) → continuation (getD x 0 0) ≡ false → isBoundary (92 ∷ 120 ∷ a ∷ b ∷ x) 4 ≡ true
   unfolding isBoundary
   boundary a b [] f = refl
   boundary a b (y ∷ x) f = rw (lt-leb (length (92 ∷ 120 ∷ a ∷ b ∷ y ∷ x)) 4 (omega arith), f)
 
   -- an escape is read as the pieces have it, whatever follows, unless that is a byte inside a character
-  pub escaped : {t : List ℕ} {u : Unescaped} (x : List ℕ) → Esc k t u → tail (getD x 0 0) ≡ false → escapeOf k (t ++ x) ≡ value u (length t)
-  unfolding letterOf xByte
-  escaped x (letter b h) f = sym (laws.one-letter k (92 ∷ b ∷ x) (omega arith) (letterOf b) refl h)
+  pub escaped : {t : List ℕ} {u : Unescaped} (x : List ℕ) → Esc k t u → continuation (getD x 0 0) ≡ false → escapeOf k (t ++ x) ≡ value u (length t)
+  unfolding simpleEscapeOf xByte
+  escaped x (letter b h) f = sym (laws.one-letter k (92 ∷ b ∷ x) (omega arith) (simpleEscapeOf b) refl h)
   escaped x (nul a) f = sym (laws.nul k (92 ∷ 48 ∷ x) (omega arith) refl refl a)
   escaped x (hex a b h g p q) f =
       let s : List ℕ = 92 ∷ 120 ∷ a ∷ b ∷ x in
@@ -124,8 +124,8 @@ module _ (k : Allowed) where
 digit-ascii : (b : ℕ) → classOf b < 16 → b < 0x80
 digit-ascii b h = by-lt b 0x80 (λ l. l) (λ l. absurd (omega (arith, class-above b l)))
 
-letter-ascii : (b : ℕ) → (letterOf b ≡ 0 → ⊥) → b < 0x80
-unfolding letterOf
+letter-ascii : (b : ℕ) → (simpleEscapeOf b ≡ 0 → ⊥) → b < 0x80
+unfolding simpleEscapeOf
 letter-ascii b =
     let P : ℕ → Type 0 = λ c. (c ≡ 0 → ⊥) → b < 0x80 in
     cond-eq P b 39 (λ e h. omega arith) λ e.
@@ -136,8 +136,8 @@ letter-ascii b =
     cond-eq P b 92 (λ e h. omega arith) (λ e h. absurd (h refl))
 
 -- no byte inside a character follows an escape
-pub after : {k : Allowed} {t : List ℕ} {u : Unescaped} (r : List ℕ) → Esc k t u → Aligned (t ++ r) → tail (getD r 0 0) ≡ false
-unfolding tail
+pub after : {k : Allowed} {t : List ℕ} {u : Unescaped} (r : List ℕ) → Esc k t u → Aligned (t ++ r) → continuation (getD r 0 0) ≡ false
+unfolding continuation
 after [] x al = refl
 after (y ∷ r) (letter b h) al = al .1 .0 (letter-ascii b h)
 after (y ∷ r) (nul a) al = al .1 .0 (omega arith)
@@ -148,8 +148,8 @@ after (y ∷ r) (uni {d = d} u h l z sc e) al =
 -- the first bytes of an escape
 pub first-two : {k : Allowed} {t : List ℕ} {u : Unescaped} (r : List ℕ) → Esc k t u
     → (0 < length (t ++ r)) × (0 < length t) × (getD (t ++ r) 0 0 ≡ 92) × (getD (t ++ r) 1 0 ≡ 10 → ⊥)
-unfolding letterOf
-first-two r (letter b h) = (omega arith, omega arith, refl, λ e. h (ap letterOf e))
+unfolding simpleEscapeOf
+first-two r (letter b h) = (omega arith, omega arith, refl, λ e. h (ap simpleEscapeOf e))
 first-two r (nul a) = (omega arith, omega arith, refl, λ e. omega arith)
 first-two r (hex a b h g p q) = (omega arith, omega arith, refl, λ e. omega arith)
 first-two r (uni {d = d} u h l z sc e) = rw e (omega arith, omega arith, refl, λ x. omega arith)
@@ -264,7 +264,7 @@ module _ (k : Allowed) where
   escape-sound (b ∷ s) =
       let P : Escaped → Type 0 = Escapes (92 ∷ b ∷ s) in
       cond-in P (ltb (length (92 ∷ b ∷ s)) 2) (λ e. tt) λ e.
-      cond-eq P (letterOf b) 0 (λ f.
+      cond-eq P (simpleEscapeOf b) 0 (λ f.
       cond-eq P b 48 (λ g. cond-in P (allowNul k) (λ a. subst (λ (x : ℕ). Esc k (92 ∷ x ∷ []) (Byte 0)) (sym g) (nul a)) (λ a. tt)) λ g.
       cond-eq P b 120 (λ x. subst (λ (x : ℕ). Escapes (92 ∷ x ∷ s) (xEscape k (92 ∷ x ∷ s))) (sym x) (x-sound s)) λ x.
       cond-eq P b 117 (λ u. subst (λ (x : ℕ). Escapes (92 ∷ x ∷ s) (uEscape k (92 ∷ x ∷ s))) (sym u) (u-sound s)) λ u. tt) λ f.

@@ -19,7 +19,7 @@ use Rattle.escape.specs.Allows.{unicode, byteEscapes, allowNul}
 use Rattle.escape.specs.declared.Allowed.{Allowed}
 use Rattle.escape.specs.declared.Unescaped.{Unescaped}
 use Rattle.escape.specs.declared.Unescaped.the-variants.{Nothing, Byte, Unicode}
-use Rattle.escape.specs.Escape.{Escaped, value, bad, letterOf, xByte, xEscape, Hex, number, fault, hexFrom, isScalar, uScalar, badStart, uHex, uInner, uBraced, uEscape, escapeBy, escapeOf}
+use Rattle.escape.specs.Escape.{Escaped, value, bad, simpleEscapeOf, xByte, xEscape, Hex, number, fault, hexFrom, isScalar, uScalar, badStart, uHex, uInner, uBraced, uEscape, escapeBy, escapeOf}
 use Rattle.escape.proofs.Within.{scalar-right}
 
 -- An escape is never a dropped line break. A byte value is a byte, and below 128 where the kind has no byte escapes (`unwrap_char`). A character is a scalar value, and there is
@@ -33,8 +33,8 @@ abbrev pub EscapeUnwraps : Allowed → Escaped → Type 0
 EscapeUnwraps k (value u n) = Unwraps k u
 EscapeUnwraps k (bad num p) = Unit {0}
 
-letter-small : (b : ℕ) → letterOf b < 128
-unfolding letterOf
+letter-small : (b : ℕ) → simpleEscapeOf b < 128
+unfolding simpleEscapeOf
 letter-small b =
     let P : ℕ → Type 0 = λ l. l < 128 in
     cond-eq P b 39 (λ e. omega arith) λ e.
@@ -84,7 +84,7 @@ escape-unwraps k s =
     let P : Escaped → Type 0 = EscapeUnwraps k in
     let b : ℕ = getD s 1 0 in
     cond-lt P (length s) 2 (λ h. tt) λ h.
-    cond-eq P (letterOf b) 0 (λ f.
+    cond-eq P (simpleEscapeOf b) 0 (λ f.
     cond-eq P b 48 (λ g. cond-in P (allowNul k) (λ a. (omega arith, λ n. omega arith)) (λ a. tt)) λ g.
     cond-eq P b 120 (λ x. x-unwraps k s) λ x.
     cond-eq P b 117 (λ u. u-unwraps k s) λ u. tt) λ f. (omega (arith, letter-small b), λ n. letter-small b)

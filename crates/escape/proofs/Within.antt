@@ -20,7 +20,7 @@ use Rattle.utf8.specs.Cut.{isBoundary}
 use Rattle.utf8.proofs.Laws.{encode-length}
 use Rattle.escape.specs.Allows.{unicode, byteEscapes, allowNul}
 use Rattle.escape.specs.declared.Allowed.{Allowed}
-use Rattle.escape.specs.Escape.{Escaped, value, bad, bytesOf, Valid, letterOf, xByte, xEscape, Hex, number, fault, hexFrom, isScalar, uScalar, badStart, uHex, uInner, uBraced, uEscape, escapeBy, escapeOf}
+use Rattle.escape.specs.Escape.{Escaped, value, bad, bytesOf, Valid, simpleEscapeOf, xByte, xEscape, Hex, number, fault, hexFrom, isScalar, uScalar, badStart, uHex, uInner, uBraced, uEscape, escapeBy, escapeOf}
 use Rattle.escape.proofs.Hexes.{FaultBelow, fault-below}
 use Rattle.escape.proofs.Escapes.{brace-there}
 
@@ -102,7 +102,7 @@ escape-in k s =
     let P : Escaped → Type 0 = EscapeIn (length s) in
     let b : ℕ = getD s 1 0 in
     cond-lt P (length s) 2 (λ h p. omega arith) λ h.
-    cond-eq P (letterOf b) 0 (λ f.
+    cond-eq P (simpleEscapeOf b) 0 (λ f.
     cond-eq P b 48 (λ g. cond-in P (allowNul k) (λ a. (omega arith, h, omega arith, tt)) (λ a p. omega arith)) λ g.
     cond-eq P b 120 (λ x. x-in k s) λ x.
     cond-eq P b 117 (λ u. u-in k s h) λ u p. omega arith) λ f. (omega arith, h, omega arith, tt)

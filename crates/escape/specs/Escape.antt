@@ -47,8 +47,8 @@ escapedOf (escape.Bad k s) = bad (numberOf k) (placeOf s)
 -- ---- one letter
 
 -- the arms for `'`, `"`, `n`, `r`, `t` and the backslash: the byte that the letter stands for; 0 for every other byte
-unfoldable pub letterOf : ℕ → ℕ
-letterOf b =
+unfoldable pub simpleEscapeOf : ℕ → ℕ
+simpleEscapeOf b =
     cond (eqb b 39) 39
     (cond (eqb b 34) 34
     (cond (eqb b 110) 10
@@ -136,12 +136,12 @@ uEscape k s =
 -- `match first`, where the second byte is b: a letter, `0` (35 where the kind has no NUL), `x`, `u`; any other is 8
 unfoldable pub escapeBy : Allowed → ℕ → List ℕ → Escaped
 escapeBy k b s =
-    cond (eqb (letterOf b) 0)
+    cond (eqb (simpleEscapeOf b) 0)
     (cond (eqb b 48) (cond (allowNul k) (value (Byte 0) 2) (bad 35 (between 0 2)))
     (cond (eqb b 120) (xEscape k s)
     (cond (eqb b 117) (uEscape k s)
     (bad 8 (between 0 2)))))
-    (value (Byte (letterOf b)) 2)
+    (value (Byte (simpleEscapeOf b)) 2)
 
 -- litrs's `unescape`: no second byte is 9. The first byte is not looked at: it is a backslash wherever this is used.
 unfoldable pub escapeOf : Allowed → List ℕ → Escaped

@@ -9,7 +9,7 @@ use Rattle.scan.specs.Run.{All}
 use Rattle.scan.specs.Sets.{only}
 use Rattle.parse.specs.Class.{classOf}
 use Rattle.escape.specs.Allows.{unicode, byteEscapes, allowNul}
-use Rattle.escape.specs.Escape.{letterOf, isScalar}
+use Rattle.escape.specs.Escape.{simpleEscapeOf, isScalar}
 use Rattle.escape.specs.declared.Allowed.{Allowed}
 use Rattle.escape.specs.declared.Unescaped.{Unescaped}
 use Rattle.escape.specs.declared.Unescaped.the-variants.{Byte, Unicode}
@@ -22,7 +22,7 @@ pub data Hexes : ℕ → List ℕ → ℕ → Type 0 where
 
 -- an escape and its value: one letter, `\0`, `\x` with two digits, `\u{}` with one to six digits of a scalar value
 pub data Esc (k : Allowed) : List ℕ → Unescaped → Type 0 where
-  letter : (b : ℕ) → (letterOf b ≡ 0 → ⊥) → Esc k (92 ∷ b ∷ []) (Byte (letterOf b))
+  letter : (b : ℕ) → (simpleEscapeOf b ≡ 0 → ⊥) → Esc k (92 ∷ b ∷ []) (Byte (simpleEscapeOf b))
   nul : allowNul k ≡ true → Esc k (92 ∷ 48 ∷ []) (Byte 0)
   hex : (a b : ℕ) → classOf a < 16 → classOf b < 16
       → (not (byteEscapes k) && ltb 127 (classOf b + 16 * classOf a)) ≡ false

@@ -9,7 +9,7 @@ ghost use Prim.Native.Nat.{_+_, _≤_, _<_};
 ghost use lib.ListN.{length};
 ghost use Rattle.buffer.specs.Buffer.{Wrote};
 ghost use Rattle.escape.specs.Allows.{unicode, byteEscapes, allowNul};
-ghost use Rattle.escape.specs.Escape.{bytesOf, Valid, escapedOf, letterOf, xByte, xEscape, hexFrom, isScalar, uScalar, uHex, badStart, uInner, uEscape, escapeOf};
+ghost use Rattle.escape.specs.Escape.{bytesOf, Valid, escapedOf, simpleEscapeOf, xByte, xEscape, hexFrom, isScalar, uScalar, uHex, badStart, uInner, uEscape, escapeOf};
 
 // What a kind of literal allows: as text (chars and strings), as bytes, as a C string.
 pub enum Allowed {
@@ -81,8 +81,8 @@ pub fn bars(allowed: bool, there: bool) -> bool
 }
 
 // The value of an escape of one letter other than `0`, or 0.
-pub fn letter(b: u8) -> u8
-    ensures { λ r. ⌜ r ≡ letterOf b ⌝ }
+pub fn simple_escape(b: u8) -> u8
+    ensures { λ r. ⌜ r ≡ simpleEscapeOf b ⌝ }
 {
     match b {
         b'\'' => b'\'',
@@ -95,6 +95,7 @@ pub fn letter(b: u8) -> u8
     }
 }
 
+// What a `\x` escape with this number stands for, or why the kind refuses it.
 fn x_byte(v: u8, k: Allowed) -> Escape
     ensures { λ r. ⌜ escapedOf r ≡ xByte k v ⌝ }
 {
@@ -107,6 +108,7 @@ fn x_byte(v: u8, k: Allowed) -> Escape
     Escape::Value(Unescaped::Byte(v), 4)
 }
 
+// The arm for `\x` of litrs's `unescape`.
 fn x_escape(s: &[u8], k: Allowed) -> Escape
     ensures { λ r. ⌜ escapedOf r ≡ xEscape k (now (s .entry)) ⌝ }
 {
@@ -124,6 +126,7 @@ fn x_escape(s: &[u8], k: Allowed) -> Escape
     x_byte(b + 16 * a, k)
 }
 
+// Whether a number is a Unicode scalar value.
 pub fn is_scalar(v: u32) -> bool
     ensures { λ r. ⌜ r ≡ isScalar v ⌝ }
 {
@@ -206,6 +209,7 @@ fn u_inner(d: &[u8], k: Allowed) -> Escape
     u_digits(d, k)
 }
 
+// The arm for `\u` of litrs's `unescape`.
 fn u_escape(s: &[u8], k: Allowed) -> Escape
     ensures { λ r. ⌜ escapedOf r ≡ uEscape k (now (s .entry)) ⌝ }
 {
@@ -231,7 +235,7 @@ pub fn unescape(s: &[u8], k: Allowed) -> Escape
         return bad(ParseErrorKind::UnterminatedEscape, 1);
     }
     let b = s[1];
-    let l = letter(b);
+    let l = simple_escape(b);
     if l != 0 {
         return Escape::Value(Unescaped::Byte(l), 2);
     }

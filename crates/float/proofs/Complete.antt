@@ -1,4 +1,4 @@
--- The parts of a float literal, one behind the other, are accepted.
+-- The parts of a float literal, one after the other, are accepted.
 -- Assumes nothing.
 use mathlib.Core.Path.{_≡_, refl, ap, sym, _∙_}
 use mathlib.Core.Logic.{⊎-elim}
@@ -19,10 +19,10 @@ use Rattle.parse.specs.Class.{classOf}
 use Rattle.parse.specs.Sets.{digit, decDigit, startsE}
 use Rattle.suffix.specs.Suffix.{suffixFault}
 use Rattle.parse.proofs.Classes.{either, digit-ten-cases, dec-digit-ends}
-use Rattle.parse.proofs.Numbers.{e-behind}
+use Rattle.parse.proofs.Numbers.{e-after}
 use Rattle.float.specs.Float.{badFraction, afterFraction, afterInteger, floatRead}
 use Rattle.float.specs.Parts.{Exponent, no-exponent, exponent, Fraction, no-fraction, fraction, FloatParts}
-use Rattle.float.proofs.Steps.{isSign, byte-from, behind, exponent-from, fraction-from, no-fraction-from, number-from}
+use Rattle.float.proofs.Steps.{isSign, byte-from, past, exponent-from, fraction-from, no-fraction-from, number-from}
 
 -- ---- what cannot be taken for something else
 
@@ -55,11 +55,11 @@ unfolding afterFraction startsE
 rest-complete s i f ex suf h (no-exponent e) o l n m =
     let z : f + length ex ≡ f = omega (arith, ap length e) in
     let w : drop f s ≡ suf = h ∙ rw e in
-    rw (← e-behind s f, w, n e, z) (number-from s i f f (rw w o) (rw z at m))
+    rw (← e-after s f, w, n e, z) (number-from s i f f (rw w o) (rw z at m))
 rest-complete s i f ex suf h (exponent letter sign ds e t g d some) o l n m =
     let w : drop f s ≡ letter ∷ (sign ++ (ds ++ suf)) = h ∙ rw (e, append-assoc) in
     let q = ap length e in
-    let b = behind s f ex suf h in
+    let b = past s f ex suf h in
     rw (exponent-from s i f letter sign ds suf w (rw e at t) g (λ y. no-sign ds suf d some) d l, ne-eqb (run (only 95) ds) (length ds) (λ y. omega arith), ← q)
     (number-from s i f (f + length ex) (rw b o) m)
 
@@ -77,7 +77,7 @@ empty [] e = refl
 empty (x ∷ l) e = absurd (omega arith)
 
 module _ {whole frac ex suf : List ℕ} (p : FloatParts whole frac ex suf) where
-  -- behind the integer part stands a period, or `e` or `E`
+  -- after the integer part stands a period, or `e` or `E`
   pub whole-longest : Stops (digit 10) (frac ++ (ex ++ suf))
   unfolding digit classOf
   whole-longest = go (p .fraction)
@@ -95,9 +95,9 @@ module _ {whole frac ex suf : List ℕ} (p : FloatParts whole frac ex suf) where
       go (no-exponent g) = absurd (p .some e g)
       go (exponent letter sign ds g t s d m) = rw g (e-stops letter (rw g at t) .1)
 
-  behind-whole : (s : List ℕ) → drop (length whole) s ≡ frac ++ (ex ++ suf)
+  after-whole : (s : List ℕ) → drop (length whole) s ≡ frac ++ (ex ++ suf)
       → afterInteger s (length whole) ≡ accepted 3 (length whole + length frac + length ex) (ends (record { whole = length whole; fraction = length whole + length frac; end = length whole + length frac + length ex }))
-  behind-whole s h = go (p .fraction)
+  after-whole s h = go (p .fraction)
     where
       i : ℕ
       i = length whole
@@ -107,7 +107,7 @@ module _ {whole frac ex suf : List ℕ} (p : FloatParts whole frac ex suf) where
 
       rest : afterFraction s i f ≡ accepted 3 (f + length ex) (ends (record { whole = i; fraction = f; end = f + length ex }))
       rest =
-          rest-complete s i f ex suf (behind s i frac (ex ++ suf) h) (p .exponent) (p .suffix) (p .longest) (p .no-e)
+          rest-complete s i f ex suf (past s i frac (ex ++ suf) h) (p .exponent) (p .suffix) (p .longest) (p .no-e)
           (λ e. p .some (empty frac (omega arith)) (empty ex (omega arith)))
 
       go : Fraction frac → afterInteger s i ≡ accepted 3 (f + length ex) (ends (record { whole = i; fraction = f; end = f + length ex }))
@@ -118,7 +118,7 @@ module _ {whole frac ex suf : List ℕ} (p : FloatParts whole frac ex suf) where
           let w : drop i s ≡ 46 ∷ (ds ++ (ex ++ suf)) = h ∙ rw e in
           let z : i + 1 + length ds ≡ f = omega (arith, ap length e) in
           fraction-from s i ds (ex ++ suf) w d (rest-stops ex suf (p .exponent) (p .longest)) ∙
-          rw (good-fraction s (i + 1) ds (ex ++ suf) (behind s i (46 ∷ []) (ds ++ (ex ++ suf)) w) n (λ y. let b = p .bare (e ∙ rw y) in rw (b .0) (b .1)), z) rest
+          rw (good-fraction s (i + 1) ds (ex ++ suf) (past s i (46 ∷ []) (ds ++ (ex ++ suf)) w) n (λ y. let b = p .bare (e ∙ rw y) in rw (b .0) (b .1)), z) rest
 
 pub complete : {whole frac ex suf : List ℕ} → FloatParts whole frac ex suf
     → let i = length whole in
@@ -129,4 +129,4 @@ complete {whole = []} p = clash (p .first) refl
 complete {whole = b ∷ w} {frac} {ex} {suf} p =
     let whole = b ∷ w in
     let r = frac ++ (ex ++ suf) in
-    rw (p .first, run-is (digit 10) whole r (p .digits) (whole-longest p)) (behind-whole p (whole ++ r) (drop-append-seam whole r))
+    rw (p .first, run-is (digit 10) whole r (p .digits) (whole-longest p)) (after-whole p (whole ++ r) (drop-append-seam whole r))

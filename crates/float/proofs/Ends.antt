@@ -1,4 +1,4 @@
--- Reading on by where fraction and exponent end: there is one exactly where it ends behind its start.
+-- Reading on by where fraction and exponent end: there is one exactly where it ends after its start.
 -- Assumes nothing.
 use mathlib.Core.Path.{_≡_}
 use mathlib.Core.Bool.{Bool, true, false, cond, _&&_, _||_}
@@ -13,7 +13,7 @@ use Rattle.scan.proofs.Cases.{cond-in}
 use Rattle.parse.specs.Sets.{startsE}
 use Rattle.float.specs.Float.{digitsEnd, afterNumber, signEnd, noDigit, exponentEnd, afterFraction, badFraction, fractionEnd, afterInteger}
 
--- a part that is there ends behind its start, and one that is not there ends where it would start
+-- a part that is there ends after its start, and one that is not there ends where it would start
 by-end : (t : Bool) (a d : ℕ) (bad : ℕ → Bool) (out on : ℕ → Outcome) → a < d
     → let e = cond t d a in
     cond t (cond (bad d) (out d) (on d)) (on a) ≡ cond (ltb a e && bad e) (out e) (on e)
@@ -21,12 +21,12 @@ by-end true a d bad out on h = rw (lt-ltb a d h)
 by-end false a d bad out on h = rw (le-ltb a a (omega arith))
 
 module _ (s : List ℕ) where
-  -- the digits of an exponent start behind its `e`
-  pub sign-behind : (f : ℕ) → f < signEnd s f
+  -- the digits of an exponent start after its `e`
+  pub sign-after : (f : ℕ) → f < signEnd s f
   unfolding signEnd
-  sign-behind f = cond-in (λ (n : ℕ). f < n) (eqb (getD s (f + 1) 0) 45 || eqb (getD s (f + 1) 0) 43) (λ e. omega arith) (λ e. omega arith)
+  sign-after f = cond-in (λ (n : ℕ). f < n) (eqb (getD s (f + 1) 0) 45 || eqb (getD s (f + 1) 0) 43) (λ e. omega arith) (λ e. omega arith)
 
-  -- and not behind its end
+  -- and not after its end
   pub sign-before : (f : ℕ) → f < exponentEnd s f → signEnd s f ≤ exponentEnd s f
   unfolding exponentEnd
   sign-before f = cond-in (λ (n : ℕ). f < n → signEnd s f ≤ n) (startsE s f) (λ t h. omega arith) (λ t h. absurd (omega arith))
@@ -36,7 +36,7 @@ module _ (s : List ℕ) where
       afterFraction s i f ≡ cond (ltb f e && noDigit s (signEnd s f) e) (refused 7 (between f e)) (afterNumber s i f e)
   unfolding afterFraction exponentEnd
   by-exponent i f =
-      by-end (startsE s f) f (digitsEnd s (signEnd s f)) (noDigit s (signEnd s f)) (λ e. refused 7 (between f e)) (afterNumber s i f) (omega (arith, sign-behind f))
+      by-end (startsE s f) f (digitsEnd s (signEnd s f)) (noDigit s (signEnd s f)) (λ e. refused 7 (between f e)) (afterNumber s i f) (omega (arith, sign-after f))
 
   pub by-fraction : (i : ℕ)
       → let f = fractionEnd s i in

@@ -21,22 +21,22 @@ use Rattle.parse.proofs.Numbers.{e-inside}
 use Rattle.suffix.proofs.Suffixes.{fault-small}
 use Rattle.float.specs.Float.{digitsEnd, notInteger, afterNumber, signEnd, noDigit, afterFraction, badFraction, afterInteger, floatRead}
 use Rattle.float.proofs.Inside.{digits-inside}
-use Rattle.float.proofs.Ends.{sign-behind}
+use Rattle.float.proofs.Ends.{sign-after}
 
 -- what a refusal of a text of m bytes says
-abbrev Told : ℕ → Outcome → Type 0
-Told m (refused n p) = RefusedIn m n p
-Told m (accepted k e vs) = Unit {0}
+abbrev RefusedWithin : ℕ → Outcome → Type 0
+RefusedWithin m (refused n p) = RefusedIn m n p
+RefusedWithin m (accepted k e vs) = Unit {0}
 
 module _ (s : List ℕ) where
-  number : (i f e : ℕ) → e ≤ length s → Told (length s) (afterNumber s i f e)
+  number : (i f e : ℕ) → e ≤ length s → RefusedWithin (length s) (afterNumber s i f e)
   unfolding afterNumber notInteger
   number i f e h =
-      cond-eq (Told (length s)) (suffixFault (drop e s)) 0
-      (λ z. cond-eq (Told (length s)) i e (λ y. omega arith) (λ y. tt))
+      cond-eq (RefusedWithin (length s)) (suffixFault (drop e s)) 0
+      (λ z. cond-eq (RefusedWithin (length s)) i e (λ y. omega arith) (λ y. tt))
       (λ z. let l = fault-small (drop e s) in omega arith)
 
-  -- a sign stands inside the text, behind an `e` that does
+  -- a sign stands inside the text, after an `e` that does
   sign-inside : (f : ℕ) → startsE s f ≡ true → signEnd s f ≤ length s
   unfolding signEnd
   sign-inside f t =
@@ -49,13 +49,13 @@ module _ (s : List ℕ) where
       omega arith)
       (λ e. omega arith)
 
-  behind-fraction : (i f : ℕ) → f ≤ length s → Told (length s) (afterFraction s i f)
+  after-fraction : (i f : ℕ) → f ≤ length s → RefusedWithin (length s) (afterFraction s i f)
   unfolding afterFraction
-  behind-fraction i f h =
-      cond-in (Told (length s)) (startsE s f)
+  after-fraction i f h =
+      cond-in (RefusedWithin (length s)) (startsE s f)
       (λ t.
       let d = digits-inside s (signEnd s f) (sign-inside f t) in
-      cond-in (Told (length s)) (noDigit s (signEnd s f) (digitsEnd s (signEnd s f))) (λ y. omega (arith, sign-behind s f))
+      cond-in (RefusedWithin (length s)) (noDigit s (signEnd s f) (digitsEnd s (signEnd s f))) (λ y. omega (arith, sign-after s f))
       (λ y. number i f (digitsEnd s (signEnd s f)) d))
       (λ t. number i f f h)
 
@@ -67,24 +67,24 @@ module _ (s : List ℕ) where
       (λ e. let l = ltb-true at (length s) (both (eqb end at) (ltb at (length s)) e .1) in omega arith)
       (either (eqb (getD s at 0) 95) (eqb end at && ltb at (length s)) t)
 
-  behind-integer : (i : ℕ) → i ≤ length s → Told (length s) (afterInteger s i)
+  after-integer : (i : ℕ) → i ≤ length s → RefusedWithin (length s) (afterInteger s i)
   unfolding afterInteger
-  behind-integer i h =
-      cond-eq (Told (length s)) (getD s i 0) 46
+  after-integer i h =
+      cond-eq (RefusedWithin (length s)) (getD s i 0) 46
       (λ e.
       let l = byte-inside s i 46 e (omega arith) in
-      cond-in (Told (length s)) (badFraction s (i + 1) (digitsEnd s (i + 1)))
+      cond-in (RefusedWithin (length s)) (badFraction s (i + 1) (digitsEnd s (i + 1)))
       (λ t. let g = bad-inside (i + 1) (digitsEnd s (i + 1)) t in omega arith)
-      (λ t. behind-fraction i (digitsEnd s (i + 1)) (digits-inside s (i + 1) (omega arith))))
-      (λ e. behind-fraction i i h)
+      (λ t. after-fraction i (digitsEnd s (i + 1)) (digits-inside s (i + 1) (omega arith))))
+      (λ e. after-fraction i i h)
 
-told : (s : List ℕ) → Told (length s) (floatRead s)
+known : (s : List ℕ) → RefusedWithin (length s) (floatRead s)
 unfolding floatRead
-told [] = omega arith
-told (b ∷ t) =
+known [] = omega arith
+known (b ∷ t) =
     let s = b ∷ t in
-    cond-in (Told (length s)) (decDigit b) (λ d. behind-integer s (run (digit 10) s) (run-le (digit 10) s))
+    cond-in (RefusedWithin (length s)) (decDigit b) (λ d. after-integer s (run (digit 10) s) (run-le (digit 10) s))
     (λ d. omega arith)
 
 pub refused-in : (s : List ℕ) {n : ℕ} {p : Place} → floatRead s ≡ refused n p → RefusedIn (length s) n p
-refused-in s h = subst (Told (length s)) h (told s)
+refused-in s h = subst (RefusedWithin (length s)) h (known s)

@@ -19,10 +19,10 @@ use Rattle.scan.proofs.Runs.{run-le, run-all, run-stops, run-split}
 use Rattle.parse.specs.Sets.{digit, decDigit, startsE}
 use Rattle.suffix.specs.Suffix.{suffixFault}
 use Rattle.parse.proofs.Classes.{digit-decimal}
-use Rattle.parse.proofs.Numbers.{e-inside, e-behind}
+use Rattle.parse.proofs.Numbers.{e-inside, e-after}
 use Rattle.float.specs.Float.{notInteger, afterNumber, afterFraction, badFraction, afterInteger, floatRead}
 use Rattle.float.specs.Parts.{Sign, unsigned, plus, minus, Exponent, no-exponent, exponent, Fraction, no-fraction, fraction, Tiled}
-use Rattle.float.proofs.Steps.{isSign, byte-from, behind, exponent-from, fraction-from, no-fraction-from}
+use Rattle.float.proofs.Steps.{isSign, byte-from, past, exponent-from, fraction-from, no-fraction-from}
 
 -- a sign or none at the front
 signed : (t : List ℕ) → (sign : List ℕ) × (u : List ℕ) × (t ≡ sign ++ u) × Sign sign × (sign ≡ [] → isSign (getD u 0 0) ≡ false)
@@ -76,7 +76,7 @@ module _ (k p : ℕ) (v : Values) where
             exponent = no-exponent refl;
             suffix = n .0;
             longest = l;
-            no-e = λ e. e-behind s f ∙ t;
+            no-e = λ e. e-after s f ∙ t;
             more = rw add-zero (n .1);
             is = rw add-zero (n .2);
           }
@@ -101,7 +101,7 @@ module _ (k p : ℕ) (v : Values) where
             suf = suf;
             text = w2;
             exponent = exponent (getD s f 0) sign ds refl t (g .3) (run-all (digit 10) u) (omega (arith, run-le (only 95) ds));
-            suffix = rw (behind s f ex suf w2) at (n .0);
+            suffix = rw (past s f ex suf w2) at (n .0);
             longest = run-stops (digit 10) u;
             no-e = λ e. absurd (cons≢nil e);
             more = n .1;
@@ -113,7 +113,7 @@ neither : (a b : Bool) → (a || b) ≡ false → (a ≡ false) × (b ≡ false)
 neither true b e = clash refl e
 neither false b e = (refl, e)
 
--- what `badFraction` leaves behind a period
+-- what `badFraction` leaves after a period
 good-fraction : (s : List ℕ) (at : ℕ) (ds rest : List ℕ) → drop at s ≡ ds ++ rest → badFraction s at (at + length ds) ≡ false
     → Stops (only 95) ds × (ds ≡ [] → rest ≡ [])
 unfolding badFraction only
@@ -154,8 +154,8 @@ module _ (k p : ℕ) (v : Values) (s whole : List ℕ) (digits : All (digit 10) 
         values = cc (r .is);
       }
 
-  behind-whole : s ≡ whole ++ drop (length whole) s → Stops (digit 10) (drop (length whole) s) → afterInteger s (length whole) ≡ accepted k p v → Tiled s k p v
-  behind-whole t l h = go (eqb (getD s (length whole) 0) 46) refl
+  after-whole : s ≡ whole ++ drop (length whole) s → Stops (digit 10) (drop (length whole) s) → afterInteger s (length whole) ≡ accepted k p v → Tiled s k p v
+  after-whole t l h = go (eqb (getD s (length whole) 0) 46) refl
     where
       go : (y : Bool) → eqb (getD s (length whole) 0) 46 ≡ y → Tiled s k p v
       go false y =
@@ -169,11 +169,11 @@ module _ (k p : ℕ) (v : Values) (s whole : List ℕ) (digits : All (digit 10) 
           let rest = drop (run (digit 10) u) u in
           let w : drop i s ≡ 46 ∷ (ds ++ rest) = drop-cons s i 0 (byte-inside s i 46 b (omega arith)) ∙ rw (b, run-split) in
           let q : i + 1 + length ds ≡ i + length (46 ∷ ds) = omega arith in
-          let x : drop (i + length (46 ∷ ds)) s ≡ rest = behind s i (46 ∷ ds) rest w in
+          let x : drop (i + length (46 ∷ ds)) s ≡ rest = past s i (46 ∷ ds) rest w in
           cond-in (λ o. o ≡ accepted k p v → Tiled s k p v) (badFraction s (i + 1) (i + 1 + length ds))
           (λ y h. refusal k p v h)
           (λ y h.
-          let g = good-fraction s (i + 1) ds rest (behind s i (46 ∷ []) (ds ++ rest) w) y in
+          let g = good-fraction s (i + 1) ds rest (past s i (46 ∷ []) (ds ++ rest) w) y in
           tile (46 ∷ ds) (fraction ds refl (run-all (digit 10) u) (g .0)) (rw (x, ← w) t)
           (λ e. x ∙ g .1 (cc))
           (rest-sound k p v s i (i + length (46 ∷ ds)) (rw x (run-stops (digit 10) u)) (rw (← q) h)))
@@ -188,6 +188,6 @@ sound (b ∷ t) k e v =
     let s = b ∷ t in
     let n = run (digit 10) s in
     let l : n ≡ length (take n s) = sym (length-take-le n s (run-le (digit 10) s)) in
-    behind-whole k e v s (take n s) (run-all (digit 10) s) (rw (digit-decimal 10 b (omega arith) d) d)
+    after-whole k e v s (take n s) (run-all (digit 10) s) (rw (digit-decimal 10 b (omega arith) d) d)
     (rw (← l) (sym (run-split (digit 10) s))) (rw (← l) (run-stops (digit 10) s)) (rw (← l) h))
     (λ d h. refusal k e v h)

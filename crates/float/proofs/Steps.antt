@@ -16,15 +16,15 @@ use Rattle.scan.specs.Sets.{only}
 use Rattle.scan.proofs.Runs.{run-is}
 use Rattle.parse.specs.Sets.{digit, startsE}
 use Rattle.suffix.specs.Suffix.{suffixFault}
-use Rattle.parse.proofs.Numbers.{e-behind}
+use Rattle.parse.proofs.Numbers.{e-after}
 use Rattle.float.specs.Float.{digitsEnd, notInteger, afterNumber, signEnd, noDigit, afterFraction, badFraction, afterInteger}
 use Rattle.float.specs.Parts.{Sign, unsigned, plus, minus}
 
 pub byte-from : (s : List ℕ) (at : ℕ) (r : List ℕ) → drop at s ≡ r → getD s at 0 ≡ getD r 0 0
 byte-from s at r h = rw (← h, getD-drop, add-zero)
 
-pub behind : (s : List ℕ) (at : ℕ) (a r : List ℕ) → drop at s ≡ a ++ r → drop (at + length a) s ≡ r
-behind s at a r h = rw (← drop-drop, h, drop-append-seam)
+pub past : (s : List ℕ) (at : ℕ) (a r : List ℕ) → drop at s ≡ a ++ r → drop (at + length a) s ≡ r
+past s at a r h = rw (← drop-drop, h, drop-append-seam)
 
 pub digits-from : (s : List ℕ) (at : ℕ) (a r : List ℕ) → drop at s ≡ a ++ r → All (digit 10) a → Stops (digit 10) r → digitsEnd s at ≡ at + length a
 digits-from s at a r h d e = rw (h, run-is (digit 10) a r d e)
@@ -50,10 +50,10 @@ pub exponent-from : (s : List ℕ) (i f letter : ℕ) (sign ds suf : List ℕ) �
     afterFraction s i f ≡ cond (eqb (run (only 95) ds) (length ds)) (refused 7 (between f e)) (afterNumber s i f e)
 unfolding afterFraction startsE
 exponent-from s i f letter sign ds suf h t g n d l =
-    let h1 : drop (f + 1) s ≡ sign ++ (ds ++ suf) = behind s f (letter ∷ []) (sign ++ (ds ++ suf)) h in
-    let h2 : drop (f + 1 + length sign) s ≡ ds ++ suf = behind s (f + 1) sign (ds ++ suf) h1 in
+    let h1 : drop (f + 1) s ≡ sign ++ (ds ++ suf) = past s f (letter ∷ []) (sign ++ (ds ++ suf)) h in
+    let h2 : drop (f + 1 + length sign) s ≡ ds ++ suf = past s (f + 1) sign (ds ++ suf) h1 in
     let q : f + 1 + length sign + length ds ≡ f + length (letter ∷ (sign ++ ds)) = omega (arith, length-append sign ds) in
-    rw (← e-behind s f, h, t, sign-from s f sign (ds ++ suf) h1 g n, digits-from s (f + 1 + length sign) ds suf h2 d l, no-digit-from s (f + 1 + length sign) ds suf h2, q)
+    rw (← e-after s f, h, t, sign-from s f sign (ds ++ suf) h1 g n, digits-from s (f + 1 + length sign) ds suf h2 d l, no-digit-from s (f + 1 + length sign) ds suf h2, q)
 
 -- ---- the fraction
 
@@ -61,7 +61,7 @@ pub fraction-from : (s : List ℕ) (i : ℕ) (ds rest : List ℕ) → drop i s �
     → afterInteger s i ≡ cond (badFraction s (i + 1) (i + 1 + length ds)) (refused 2 (between (i + 1) (i + 1 + 1))) (afterFraction s i (i + 1 + length ds))
 unfolding afterInteger
 fraction-from s i ds rest h d l =
-    let h1 : drop (i + 1) s ≡ ds ++ rest = behind s i (46 ∷ []) (ds ++ rest) h in
+    let h1 : drop (i + 1) s ≡ ds ++ rest = past s i (46 ∷ []) (ds ++ rest) h in
     rw (byte-from s i _ h, digits-from s (i + 1) ds rest h1 d l)
 
 pub no-fraction-from : (s : List ℕ) (i : ℕ) → (getD s i 0 ≡ 46 → ⊥) → afterInteger s i ≡ afterFraction s i i

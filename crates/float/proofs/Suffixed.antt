@@ -1,4 +1,4 @@
--- A float's suffix: how it starts, and that it may stand behind another number.
+-- A float's suffix: how it starts, and that it may stand after another number.
 -- Assumes nothing.
 use mathlib.Core.Path.{_≡_, refl, sym}
 use mathlib.Core.Logic.{_⊎_, ⊎-elim}

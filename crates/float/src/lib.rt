@@ -163,6 +163,7 @@ fn refusal(parsed: Parsed) -> Reading
     }
 }
 
+// litrs's `FloatLit::parse`.
 pub fn parse(text: &[u8]) -> Reading
     ensures { λ r. ⌜ outcomeOf r ≡ floatRead (now (text .entry)) ⌝ }
 {

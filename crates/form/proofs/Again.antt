@@ -9,7 +9,7 @@ use Rattle.grammar.specs.Meaning as worth
 use Rattle.form.specs.Form.{formOf}
 use Rattle.form.proofs.Reduce.{reduce-value}
 use Rattle.form.proofs.Fit.{Fit, settledWorth}
-use Rattle.form.proofs.Behind.{behind-integer, behind-float}
+use Rattle.form.proofs.Behind.{after-integer, after-float}
 use Rattle.form.proofs.AgainInteger.{integer-again}
 use Rattle.form.proofs.AgainFloat.{float-again}
 use Rattle.form.proofs.AgainQuoted.{char-again, string-again, byte-again, byte-string-again, c-string-again}
@@ -31,8 +31,8 @@ pub again : (s : List ℕ) (w : Worth) (x : List ℕ) → Means s w x → Fit w 
 again s w x (is-true e i z) = subst⁻¹ (Goal x) i (true-again x z)
 again s w x (is-false e i z) = subst⁻¹ (Goal x) i (false-again x z)
 again s w x (is-integer t i z) =
-    subst⁻¹ (Goal x) i (λ f. rw z (integer-again _ (t .suffix) (t .ending) (behind-integer s t)))
-again s w x (is-float t i z) = subst⁻¹ (Goal x) i (λ f. rw z (float-again _ (t .suffix) (behind-float s t)))
+    subst⁻¹ (Goal x) i (λ f. rw z (integer-again _ (t .suffix) (t .ending) (after-integer s t)))
+again s w x (is-float t i z) = subst⁻¹ (Goal x) i (λ f. rw z (float-again _ (t .suffix) (after-float s t)))
 again s w x (is-char v t i) = subst⁻¹ (Goal x) i (char-again x (t .ending) v)
 again s w x (is-string v t i) = subst⁻¹ (Goal x) i (string-again x (t .ending) v)
 again s w x (is-raw-string v t i) = subst⁻¹ (Goal x) i (string-again x (t .ending) v)

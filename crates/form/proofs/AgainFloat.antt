@@ -15,10 +15,10 @@ use Rattle.grammar.specs.Notation.{Class, Lang, byte, all, begins, one, many, t
 use Rattle.grammar.specs.Suffixes.{DEC-DIGIT, LOW, E, XID-START}
 use Rattle.grammar.specs.Numbers.{SIGN, DEC-LITERAL, POINT-PART, FRACTION-PART, EXPONENT-PART, FLOAT-LITERAL}
 use Rattle.grammar.specs.Decimal.{Decimal}
-use Rattle.grammar.specs.Values.{numberIn, before, behind, scaled, powered, floatValue}
+use Rattle.grammar.specs.Values.{numberIn, before, after, scaled, powered, floatValue}
 use Rattle.grammar.specs.Meaning.{Means, is-float}
 use Rattle.grammar.specs.Meaning as worth
-use Rattle.grammar.proofs.Scan.{any, suffixOk, Run, behindSign, behindE, floatParts, floatOk}
+use Rattle.grammar.proofs.Scan.{any, suffixOk, Run, afterSign, afterE, floatParts, floatOk}
 use Rattle.grammar.proofs.Runs.{F-false, T-true, and-l, and-r, and-i, or-l, or-e, span-only, mixed}
 use Rattle.grammar.proofs.Integers.{suffix-in}
 use Rattle.grammar.proofs.Floats.{float-iff}
@@ -142,18 +142,18 @@ module _ (f : Class) (n : (c : ℕ) → T (DEC-DIGIT c) → f c ≡ false) where
   before-at (k ∷ u) c v a e =
       rw (n k (and-l (DEC-DIGIT k) (all DEC-DIGIT u) a)) (ap (λ (t : List ℕ). k ∷ t) (before-at u c v (and-r (DEC-DIGIT k) (all DEC-DIGIT u) a) e))
 
-  behind-at : (u : List ℕ) (c : ℕ) (v : List ℕ) → T (all DEC-DIGIT u) → f c ≡ true → behind f (u ++ (c ∷ v)) ≡ v
-  behind-at [] c v a e = rw e
-  behind-at (k ∷ u) c v a e = rw (n k (and-l (DEC-DIGIT k) (all DEC-DIGIT u) a)) (behind-at u c v (and-r (DEC-DIGIT k) (all DEC-DIGIT u) a) e)
+  after-at : (u : List ℕ) (c : ℕ) (v : List ℕ) → T (all DEC-DIGIT u) → f c ≡ true → after f (u ++ (c ∷ v)) ≡ v
+  after-at [] c v a e = rw e
+  after-at (k ∷ u) c v a e = rw (n k (and-l (DEC-DIGIT k) (all DEC-DIGIT u) a)) (after-at u c v (and-r (DEC-DIGIT k) (all DEC-DIGIT u) a) e)
 
   before-none : (u : List ℕ) → T (all DEC-DIGIT u) → before f u ≡ u
   before-none [] a = refl
   before-none (k ∷ u) a =
       rw (n k (and-l (DEC-DIGIT k) (all DEC-DIGIT u) a)) (ap (λ (t : List ℕ). k ∷ t) (before-none u (and-r (DEC-DIGIT k) (all DEC-DIGIT u) a)))
 
-  behind-none : (u : List ℕ) → T (all DEC-DIGIT u) → behind f u ≡ []
-  behind-none [] a = refl
-  behind-none (k ∷ u) a = rw (n k (and-l (DEC-DIGIT k) (all DEC-DIGIT u) a)) (behind-none u (and-r (DEC-DIGIT k) (all DEC-DIGIT u) a))
+  after-none : (u : List ℕ) → T (all DEC-DIGIT u) → after f u ≡ []
+  after-none [] a = refl
+  after-none (k ∷ u) a = rw (n k (and-l (DEC-DIGIT k) (all DEC-DIGIT u) a)) (after-none u (and-r (DEC-DIGIT k) (all DEC-DIGIT u) a))
 
 module _ (m k : ℕ) where
   abbrev part : Bool → List ℕ
@@ -188,10 +188,10 @@ module _ (m k : ℕ) where
   coefficient : numberIn 10 (decimal m ++ []) ≡ m
   coefficient = rw append-nil (number-decimal m)
 
-  behind-e : (b : Bool) → powered (decimal m) [] (signed b (decimal k)) ≡ number b
+  after-e : (b : Bool) → powered (decimal m) [] (signed b (decimal k)) ≡ number b
   unfolding SIGN
-  behind-e true = rw (coefficient, number-decimal k, add-zero)
-  behind-e false =
+  after-e true = rw (coefficient, number-decimal k, add-zero)
+  after-e false =
       ap (λ (t : Bool). scaled (decimal m) [] t (cond (begins SIGN (decimal k)) (drop 1 (decimal k)) (decimal k)))
       (no-minus (decimal k) (decimal-begins k))
       ∙ ap (λ (t : Bool). scaled (decimal m) [] false (cond t (drop 1 (decimal k)) (decimal k))) (no-sign (decimal k) (decimal-begins k))
@@ -202,22 +202,22 @@ module _ (m k : ℕ) where
   value b =
       let r = signed b (decimal k) in
       let a = decimal-all m in
-      rw (before-at E dec-e (decimal m) 101 r a e-e, behind-at E dec-e (decimal m) 101 r a e-e)
-      (rw (before-none (byte 46) dec-point (decimal m) a, behind-none (byte 46) dec-point (decimal m) a) (behind-e b))
+      rw (before-at E dec-e (decimal m) 101 r a e-e, after-at E dec-e (decimal m) 101 r a e-e)
+      (rw (before-none (byte 46) dec-point (decimal m) a, after-none (byte 46) dec-point (decimal m) a) (after-e b))
 
   module _ (x : List ℕ) (w : Behind x) where
-    run-ok : (b : Bool) → T (behindSign (decimal m) [] b (decimal k ++ x) .ok)
+    run-ok : (b : Bool) → T (afterSign (decimal m) [] b (decimal k ++ x) .ok)
     run-ok b =
         let h = span-only Run (decimal k) x (digits-run (decimal k) (decimal-all k)) (w .apart) in
         rw (h .0, h .1) (and-i (any DEC-DIGIT (decimal k)) (suffixOk x) (begins-any DEC-DIGIT (decimal k) (decimal-begins k)) (w .ok))
 
-    e-ok : (b : Bool) → T (behindE (decimal m) [] (signed b (decimal k) ++ x) .ok)
+    e-ok : (b : Bool) → T (afterE (decimal m) [] (signed b (decimal k) ++ x) .ok)
     unfolding SIGN
     e-ok true = run-ok true
     e-ok false =
         let e = no-sign (decimal k ++ x) (begins-append DEC-DIGIT (decimal k) x (decimal-begins k)) in
         let r = decimal k ++ x in
-        subst⁻¹ (λ (t : Bool). T (cond t (behindSign (decimal m) [] (begins (byte 45) r) (drop 1 r)) (behindSign (decimal m) [] false r) .ok)) e (run-ok false)
+        subst⁻¹ (λ (t : Bool). T (cond t (afterSign (decimal m) [] (begins (byte 45) r) (drop 1 r)) (afterSign (decimal m) [] false r) .ok)) e (run-ok false)
 
     parts-ok : (b : Bool) → T (floatParts (decimal m ++ (101 ∷ (signed b (decimal k) ++ x))) .ok)
     unfolding floatParts DEC-DIGIT LOW E

@@ -34,7 +34,7 @@ no-zero c (a ∷ []) [] b h t = t
 no-zero c (a ∷ []) (k ∷ x) b h t = h (eqb→eq a 48 (and-l (eqb a 48) (eqb k c) t))
 no-zero c (a ∷ k ∷ u) x b h t = h (eqb→eq a 48 (and-l (eqb a 48) (eqb k c) t))
 
--- and a lone zero makes one only with a letter behind it
+-- and a lone zero makes one only with a letter after it
 zero-front : (c : ℕ) (x : List ℕ) → T (Radixes c) → T (prefixed c (48 ∷ x)) → T (begins Radixes x)
 zero-front c [] r t = t
 zero-front c (b ∷ x) r t = subst⁻¹ (λ (k : ℕ). T (Radixes k)) (eqb→eq b c t) r

@@ -86,7 +86,7 @@ string-pieces v u =
 
 -- ---- the literals
 
--- a quote behind the content, and the suffix behind that
+-- a quote after the content, and the suffix after that
 seam : (q : ℕ) (c x : List ℕ) → (c ++ (q ∷ [])) ++ x ≡ c ++ (q ∷ x)
 seam q c x = append-assoc c (q ∷ []) x
 

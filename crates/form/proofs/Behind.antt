@@ -1,4 +1,4 @@
--- What stands behind the part of a number: no digit and no `_`.
+-- What stands after the part of a number: no digit and no `_`.
 -- Assumes nothing.
 use mathlib.Core.Path.{_≡_, refl, sym, ap, _∙_}
 use mathlib.Core.Logic.{_⊎_, inl, inr, ⊎-elim}
@@ -87,18 +87,18 @@ stop A s p (k ∷ x) l sx m t =
     (λ b. let h = l .most (p ++ (k ∷ [])) x (l .split ∙ sym (append-assoc p (k ∷ []) x)) (m k b) in omega (arith, h, length-append p (k ∷ [])))
     (or-e (DEC-DIGIT k) (LOW k) t)
 
--- what may stand behind decimal digits
+-- what may stand after decimal digits
 pub record Behind (x : List ℕ) : Type 0 where
   pub ok : T (suffixOk x)
   pub apart : T (begins Run x) → ⊥
 
-pub behind-integer : (s : List ℕ) → (t : INTEGER-LITERAL s) → Behind (t .suffix)
-behind-integer s t =
+pub after-integer : (s : List ℕ) → (t : INTEGER-LITERAL s) → Behind (t .suffix)
+after-integer s t =
     let sx = ending-ok (t .suffix) (t .ending) .0 in
     record { ok = sx; apart = stop INTEGER-PART s (t .part) (t .suffix) (t .longest) sx (λ k l. more-integer k l (t .part) (t .longest .is)) }
 
-pub behind-float : (s : List ℕ) → (t : FLOAT-LITERAL s) → Behind (t .suffix)
-behind-float s t = go (t .ending)
+pub after-float : (s : List ℕ) → (t : FLOAT-LITERAL s) → Behind (t .suffix)
+after-float s t = go (t .ending)
   where
     go : (POINT-PART (t .part) × text [] (t .suffix))
         ⊎ ((FRACTION-PART (t .part) × opt SUFFIX-NO-E (t .suffix)) ⊎ (EXPONENT-PART (t .part) × opt SUFFIX (t .suffix)))

@@ -15,7 +15,7 @@ use Rattle.grammar.specs.Escapes.{QUOTE-ESCAPE, COMMON-ESCAPE, ASCII-ESCAPE, BY
 use Rattle.grammar.specs.Escapes as escapes
 use Rattle.grammar.specs.Values.{digitValue}
 use Rattle.grammar.proofs.Runs.{T-true, true-T, and-l, and-r, and-i, or-l, or-r}
-use Rattle.form.specs.Escapes.{letterFor, xForm, asciiForm, byteForm}
+use Rattle.form.specs.Escapes.{escapeLetter, xForm, asciiForm, byteForm}
 
 -- what holds of both values holds of the one that is chosen
 pub cond-in : {A : Type 0} (P : A → Type 0) (t : Bool) {x y : A} → (t ≡ true → P x) → (t ≡ false → P y) → P (cond t x y)
@@ -32,7 +32,7 @@ cond-lt P m n f g = cond-in P (ltb m n) (λ e. f (ltb-true m n e)) (λ e. g (ltb
 pub by-ascii : (q b : ℕ) (P : List ℕ → Type 0)
     → ((t : List ℕ) → COMMON-ESCAPE t b → P t) → (b ≡ q → P (92 ∷ q ∷ [])) → (32 ≤ b → b < 127 → b ≢ 92 → b ≢ q → P (b ∷ [])) → P (xForm b)
     → P (asciiForm q b)
-unfolding asciiForm letterFor
+unfolding asciiForm escapeLetter
 by-ascii q b P simple quote plain code =
     let Q : ℕ → Type 0 = λ l. P (cond (eqb l 0) (cond (leb 32 b && ltb b 127) (b ∷ []) (xForm b)) (92 ∷ l ∷ [])) in
     let is : (v : ℕ) (t : List ℕ) → COMMON-ESCAPE t v → b ≡ v → P t = λ v t s e. simple t (subst (λ (n : ℕ). COMMON-ESCAPE t n) (sym e) s) in

@@ -7,7 +7,7 @@ use Rattle.utf8.specs.Utf8.{encode}
 use Rattle.utf8.specs.Decode.{lengthFrom, decode2, rest2, decodeBy, decode}
 use Rattle.grammar.specs.Notation.{bytes}
 use Rattle.grammar.specs.Meaning as worth
-use Rattle.form.specs.Escapes.{letterFor, asciiForm, charForm, byteForm, charFormsWithin, charForms}
+use Rattle.form.specs.Escapes.{escapeLetter, asciiForm, charForm, byteForm, charFormsWithin, charForms}
 use Rattle.form.specs.Reduced.{zeros, strip, reduce}
 use Rattle.form.specs.Form.{integerForm, reducedForm, formOf}
 
@@ -34,7 +34,7 @@ pub record Examples : Type 0 where
   pub plus : formOf (worth.float (record { coef = 20; up = 3; down = 1 })) [] ≡ bytes "2e3"
 
 pub examples : Examples
-unfolding decimal hexDigit hexDigits encode lengthFrom decode2 rest2 decodeBy decode letterFor asciiForm charForm byteForm charFormsWithin charForms zeros strip reduce integerForm reducedForm formOf
+unfolding decimal hexDigit hexDigits encode lengthFrom decode2 rest2 decodeBy decode escapeLetter asciiForm charForm byteForm charFormsWithin charForms zeros strip reduce integerForm reducedForm formOf
 examples =
     record {
       char-quotation-mark = refl;

@@ -136,7 +136,7 @@ each-piece Piece Q f s v (some t w r u p ps e i) h =
     let b = each-parts Byte t r (rw e at h) in
     rw i (each-append Q w u (f t w r p (b .0)) (each-piece Piece Q f r u ps (b .1)))
 
--- the bytes between an opening and what is behind them
+-- the bytes between an opening and what is after them
 inner : (s o v x : List ℕ) → Each Byte s → s ≡ o ++ (v ++ x) → Each Byte v
 inner s o v x h e = each-parts Byte v x (each-parts Byte o (v ++ x) (rw e at h) .1) .0
 

@@ -26,7 +26,7 @@ use Rattle.form.proofs.Fit.{Each, Fit}
 use Rattle.form.proofs.Bytes.{cond-in, cond-lt, by-ascii}
 use Rattle.form.proofs.ByBytes.{textForm, textForms, high-bytes, by-bytes}
 use Rattle.form.proofs.Decimals.{dec-is, decimal-all, all-more}
-use Rattle.form.proofs.Behind.{behind-integer, behind-float}
+use Rattle.form.proofs.Behind.{after-integer, after-float}
 
 abbrev pub NoLF : List ℕ → Type 0
 NoLF s = T (all (except (byte 10)) s)
@@ -131,8 +131,8 @@ bare-lf (worth.Worth.c-string v) x f = append (byteForms 34 v) (34 ∷ []) (byte
 pub means-suffix : (s : List ℕ) (w : Worth) (x : List ℕ) → Means s w x → T (suffixOk x)
 means-suffix s w x (is-true e i z) = rw z tt
 means-suffix s w x (is-false e i z) = rw z tt
-means-suffix s w x (is-integer t i z) = rw z (behind-integer s t .ok)
-means-suffix s w x (is-float t i z) = rw z (behind-float s t .ok)
+means-suffix s w x (is-integer t i z) = rw z (after-integer s t .ok)
+means-suffix s w x (is-float t i z) = rw z (after-float s t .ok)
 means-suffix s w x (is-char v t i) = suffix-ok x (t .ending)
 means-suffix s w x (is-string v t i) = suffix-ok x (t .ending)
 means-suffix s w x (is-raw-string v t i) = suffix-ok x (t .ending)

@@ -13,8 +13,8 @@ use Rattle.utf8.specs.declared.Decoded.the-variants.{Char, Bad}
 -- "Escaped are `\\`, `\n`, `\r`, `\t`, `\0`, and `'` in kinds 4 and 6 or `"` in 5, 7, 8": what stands after the backslash, where the kind's
 -- quote is q; 0 where there is no such escape
 -- 92 is `\`, 10 is LF, 110 is `n`, 13 is CR, 114 is `r`, 9 is tab, 116 is `t`, 0 is NUL, 48 is `0`
-unfoldable pub letterFor : ℕ → ℕ → ℕ
-letterFor q b =
+unfoldable pub escapeLetter : ℕ → ℕ → ℕ
+escapeLetter q b =
     cond (eqb b 92) 92
     (cond (eqb b 10) 110
     (cond (eqb b 13) 114
@@ -31,9 +31,9 @@ xForm b = 92 ∷ 120 ∷ hexDigits b
 -- 32 is space, 127 is DEL, 92 is `\`
 unfoldable pub asciiForm : ℕ → ℕ → List ℕ
 asciiForm q b =
-    cond (eqb (letterFor q b) 0)
+    cond (eqb (escapeLetter q b) 0)
     (cond (leb 32 b && ltb b 127) (b ∷ []) (xForm b))
-    (92 ∷ letterFor q b ∷ [])
+    (92 ∷ escapeLetter q b ∷ [])
 
 -- a character of kinds 4 and 5: "Other characters stand as themselves"
 unfoldable pub charForm : ℕ → ℕ → List ℕ

@@ -19,17 +19,17 @@ use Rattle.escape.specs.declared.Allowed.{Allowed}
 use Rattle.escape.specs.declared.Allowed.the-variants.{Text, Bytes, C}
 use Rattle.grammar.specs.Meaning as worth
 use Rattle.form.specs.Form.{bareForm}
-use Rattle.quoting.specs.Styled.{styledForms}
-use Rattle.quoting.proofs.Styles.{forms-short}
+use Rattle.form_byte.specs.Styled.{styledForms}
+use Rattle.form_byte.proofs.Styles.{forms-short}
 use Rattle.string.specs.String.{stringValue}
 use Rattle.string.proofs.Literals.{value-length}
-use Rattle.string_form.specs.Strings.{worthIn, openingOf, wideIn}
-use Rattle.string_form.proofs.Bare.{read-length, opening-short}
+use Rattle.form_string.specs.Strings.{worthIn, openingOf, verbatimIn}
+use Rattle.form_string.proofs.Bare.{read-length, opening-short}
 use Rattle.literal.specs.Readings.{readAt}
-use Rattle.bare_form.proofs.Readings.{utf8, stringIn, string-read}
-use Rattle.bare_form.proofs.Lengths.{plain-bare}
-use Rattle.bare_form.specs.Bare.{len, bareBy, bareFormBy}
-use Rattle.form_bound.specs.Bound.{boundFits, surelyFits}
+use Rattle.form_reading.proofs.Readings.{utf8, stringIn, string-read}
+use Rattle.form_reading.proofs.Lengths.{plain-bare}
+use Rattle.form_reading.specs.Bare.{len, bareBy, bareFormBy}
+use Rattle.form_bound.specs.Bound.{boundFits, fitsByBound}
 
 -- a reading o of a text s has a form, which with the suffix has at most 65,536 bytes and at most `have`
 pub record Sure (s : List ℕ) (o : Outcome) (have : ℕ) : Type 0 where
@@ -54,7 +54,7 @@ module _ (s : List ℕ) (have : ℕ) where
 
   module _ (k : Allowed) (lit : StringLit) (is : stringIn k lit ≡ readAt 0 s) where
     -- the form and the suffix
-    string-size : length (bareFormBy s (stringIn k lit)) ≡ length (openingOf k) + length (styledForms (wideIn k) 34 (stringValue k s)) + 1
+    string-size : length (bareFormBy s (stringIn k lit)) ≡ length (openingOf k) + length (styledForms (verbatimIn k) 34 (stringValue k s)) + 1
     string-size = ap length (string-form k lit .0) ∙ read-length k s lit (utf8 s is) (string-read s k lit is)
 
     bound-sure : boundFits (lit .«value_len») (length s - lit .«start_suffix») have ≡ true → Sure s (stringIn k lit) have
@@ -65,13 +65,13 @@ module _ (s : List ℕ) (have : ℕ) where
           arith,
           string-size,
           opening-short k,
-          forms-short (wideIn k) 34 (stringValue k s),
+          forms-short (verbatimIn k) 34 (stringValue k s),
           value-length k s (sym (string-read s k lit is)),
         ) in
         record { form = string-form k lit .1; short = omega (arith, m .0); room = omega (arith, m .1) }
 
   -- THE LAW: a string that surely fits has a form that fits
-  pub surely : (found : Reading) → let o = outcomeOf found in o ≡ readAt 0 s → surelyFits s o have ≡ true → Sure s o have
+  pub surely : (found : Reading) → let o = outcomeOf found in o ≡ readAt 0 s → fitsByBound s o have ≡ true → Sure s o have
   surely (reading.String lit) is e = bound-sure Text lit is e
   surely (reading.ByteString lit) is e = bound-sure Bytes lit is e
   surely (reading.CString lit) is e = bound-sure C lit is e

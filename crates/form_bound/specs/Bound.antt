@@ -1,4 +1,4 @@
--- Forms that fit for sure: for contracts between functions, no sentence of a document. Law `surely` says that they are given.
+-- Forms that fit by the bound of four bytes for one: for contracts between functions, no sentence of a document. Law `surely` says that they are given.
 -- Assumes nothing.
 use mathlib.Core.Bool.{Bool, false, _&&_}
 use mathlib.Core.List.{List}
@@ -11,11 +11,11 @@ use Rattle.err.specs.Outcome.{truth, digits, ends, value, decoded, Outcome, ref
 unfoldable pub boundFits : ℕ → ℕ → ℕ → Bool
 boundFits n m have = leb (4 * n + 3 + m) 65536 && leb (4 * n + 3 + m) have
 
--- a reading of a text s whose form fits for sure: only strings are judged so
-abbrev pub surelyFits : List ℕ → Outcome → ℕ → Bool
-surelyFits s (accepted k e (decoded v)) have = boundFits (v .len) (length s - e) have
-surelyFits s (accepted k e (truth b)) have = false
-surelyFits s (accepted k e (digits d)) have = false
-surelyFits s (accepted k e (ends z)) have = false
-surelyFits s (accepted k e (value v)) have = false
-surelyFits s (refused n p) have = false
+-- a reading of a text s whose form fits by the bound: only strings are judged so
+abbrev pub fitsByBound : List ℕ → Outcome → ℕ → Bool
+fitsByBound s (accepted k e (decoded v)) have = boundFits (v .len) (length s - e) have
+fitsByBound s (accepted k e (truth b)) have = false
+fitsByBound s (accepted k e (digits d)) have = false
+fitsByBound s (accepted k e (ends z)) have = false
+fitsByBound s (accepted k e (value v)) have = false
+fitsByBound s (refused n p) have = false

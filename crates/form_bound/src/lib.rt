@@ -1,11 +1,11 @@
-// Whether a string's settled form fits for sure, told from lengths alone.
+// Whether a string's settled form is known to fit from lengths alone, by the bound of four bytes for one.
 use err::Reading;
 ghost use mathlib.Core.Path.{_≡_};
 ghost use Rattle.err.specs.Reading.{outcomeOf};
 ghost use Rattle.literal.specs.Readings.{readAt};
-ghost use Rattle.form_bound.specs.Bound.{boundFits, surelyFits};
+ghost use Rattle.form_bound.specs.Bound.{boundFits, fitsByBound};
 
-// Whether a value of so many bytes, each at most four in a form, and the suffix after it fit for sure.
+// Whether a value of so many bytes, each at most four in a form, fits with the suffix after it.
 fn bound_fits(value_len: usize, rest: usize, have: usize) -> bool
     ensures { λ r. ⌜ r ≡ boundFits «value_len» rest have ⌝ }
 {
@@ -22,10 +22,10 @@ fn bound_fits(value_len: usize, rest: usize, have: usize) -> bool
     n <= have
 }
 
-// Whether a string's form fits for sure: then it need not be measured before it is written.
-pub fn surely_fits(text: &[u8], found: Reading, have: usize) -> bool
+// Whether a string's form fits by the bound: then it need not be measured before it is written.
+pub fn fits_by_bound(text: &[u8], found: Reading, have: usize) -> bool
     requires { ⌜ outcomeOf found ≡ readAt 0 (now text) ⌝ }
-    ensures { λ r. ⌜ r ≡ surelyFits (now (text .entry)) (outcomeOf found) have ⌝ }
+    ensures { λ r. ⌜ r ≡ fitsByBound (now (text .entry)) (outcomeOf found) have ⌝ }
 {
     match found {
         Reading::String(lit) => bound_fits(lit.value_len, text.len() - lit.start_suffix, have),

@@ -9,7 +9,7 @@ use lib.Dec.{T}
 use Rattle.grammar.specs.Notation.{all, begins, byte, _∪_, one, opt}
 use Rattle.grammar.specs.Suffixes.{DEC-DIGIT, LOW, E}
 use Rattle.grammar.specs.Numbers.{SIGN}
-use Rattle.grammar.specs.Values.{before, behind, scaled, powered, floatValue}
+use Rattle.grammar.specs.Values.{before, after, scaled, powered, floatValue}
 use Rattle.grammar.proofs.Scan.{Run}
 use Rattle.grammar.proofs.Runs.{T-true, F-false, and-l, and-r, and-i, or-l, or-r, or-e, all-append, before-stop, before-none}
 use Rattle.grammar.proofs.Integers.{Dec, dec-all, at, e-apart}
@@ -33,7 +33,7 @@ mantissa-e k m e = e-apart (Run ∪ byte 46) (λ x. x) (λ x. x) k e m
 pub record Mantissa (m w f : List ℕ) : Type 0 where
   pub chars : T (all (Run ∪ byte 46) m)
   pub whole : before (byte 46) m ≡ w
-  pub fraction : behind (byte 46) m ≡ f
+  pub fraction : after (byte 46) m ≡ f
 
 run-chars : (a : List ℕ) → T (all Run a) → T (all (Run ∪ byte 46) a)
 run-chars [] t = tt

@@ -14,7 +14,7 @@ use Rattle.grammar.specs.Suffixes.{DEC-DIGIT, LOW, E, SUFFIX, SUFFIX-NO-
 use Rattle.grammar.specs.Numbers.{BIN-DIGIT, OCT-DIGIT, HEX-DIGIT, SIGN, DEC-LITERAL, FLOAT-EXPONENT, POINT-PART, FRACTION-PART, EXPONENT-PART, RESERVED-NUMBER, bin-out, oct-out, period, exp, bin-empty, oct-empty, hex-empty, exp-empty, FLOAT-LITERAL, no-digit}
 use Rattle.grammar.proofs.Scan.{takeWhile, dropWhile, any, empty, suffixOk, prefixed}
 use Rattle.grammar.specs.Values.{floatValue}
-use Rattle.grammar.proofs.Scan.{Parts, decimalOf, Run, floatParts, floatOk, behindWhole, behindPoint, behindFraction, behindE, behindSign, without}
+use Rattle.grammar.proofs.Scan.{Parts, decimalOf, Run, floatParts, floatOk, afterWhole, afterPoint, afterFraction, afterE, afterSign, without}
 use Rattle.grammar.proofs.Runs.{T-true, true-T, F-false, not-T, T-not, and-l, and-r, and-i, or-r, or-e, span-eq, span-all, span-only, span-most, all-append, mixed, mixed-all, any-left}
 use Rattle.grammar.proofs.Integers.{range-is, low-is, Dec, dec-open, dec-make, dec-all, dec-apart, begins-both, suffix-in, suffix-ok, ending-in, ending-ok, Exponent, prefix-is, dec-front, radix-prefixed, empty-prefixed, Apart, bin-apart, oct-apart, hex-apart, at, no-any, low-more, dec-first}
 use Rattle.grammar.proofs.FloatValues.{sign-run, mantissa-whole, mantissa-point, value-without, value-powers}
@@ -101,17 +101,17 @@ ex-lit x = rw (x .is) (ex-make (x .letter) (x .sign) (x .digits) (x .is-e) (x .s
 
 -- ---- the reading at each shape
 
--- what is read of an exponent with sign g and digits z, and x behind it
+-- what is read of an exponent with sign g and digits z, and x after it
 abbrev powers : List ℕ → List ℕ → List ℕ → List ℕ → List ℕ → Parts
 powers w f g z x = record { ok = any DEC-DIGIT z && suffixOk x; whole = w; fraction = f; negative = begins (byte 45) g; exponent = z; suffix = x }
 
-behind-e : (w f g z x : List ℕ) → opt (one SIGN) g → T (all Run z) → (T (begins Run x) → ⊥) → (g ≡ [] → T (begins SIGN (z ++ x)) → ⊥)
-    → behindE w f (g ++ (z ++ x)) ≡ powers w f g z x
-behind-e w f g z x (inl e) a n h =
+after-e : (w f g z x : List ℕ) → opt (one SIGN) g → T (all Run z) → (T (begins Run x) → ⊥) → (g ≡ [] → T (begins SIGN (z ++ x)) → ⊥)
+    → afterE w f (g ++ (z ++ x)) ≡ powers w f g z x
+after-e w f g z x (inl e) a n h =
     let s = F-false (begins SIGN (z ++ x)) (h e) in
     let o = span-only Run z x a n in
     rw (e, s, o .0, o .1)
-behind-e w f g z x (inr m) a n h =
+after-e w f g z x (inr m) a n h =
     let s = T-true (SIGN (m .0)) (m .2) in
     let o = span-only Run z x a n in
     rw (m .1, s, o .0, o .1)
@@ -143,20 +143,20 @@ dec-begins : (b x : List ℕ) → Dec b → begins DEC-DIGIT (b ++ x) ≡ true
 dec-begins b x d = rw (d .is) (T-true (DEC-DIGIT (d .first)) (d .digit))
 
 parse-frac : (a b x : List ℕ) → Dec a → Dec b → (T (begins Run x) → ⊥)
-    → floatParts (a ++ (46 ∷ (b ++ x))) ≡ behindFraction true a b x
+    → floatParts (a ++ (46 ∷ (b ++ x))) ≡ afterFraction true a b x
 unfolding floatParts
 parse-frac a b x d c n =
     let h = whole a (46 ∷ (b ++ x)) d tt in
     let o = span-only Run b x (dec-all c) n in
     rw (h .0, h .1, dec-begins b x c, o .0, o .1)
 
-parse-e : (a : List ℕ) (k : ℕ) (t : List ℕ) → Dec a → T (E k) → floatParts (a ++ (k ∷ t)) ≡ behindE a [] t
+parse-e : (a : List ℕ) (k : ℕ) (t : List ℕ) → Dec a → T (E k) → floatParts (a ++ (k ∷ t)) ≡ afterE a [] t
 unfolding floatParts
 parse-e a k t d e =
     let h = whole a (k ∷ t) d (e-byte k e) in
     rw (h .0, h .1, e-point k e, T-true (E k) e)
 
-parse-fe : (a b : List ℕ) (k : ℕ) (t : List ℕ) → Dec a → Dec b → T (E k) → floatParts (a ++ (46 ∷ (b ++ (k ∷ t)))) ≡ behindE a b t
+parse-fe : (a b : List ℕ) (k : ℕ) (t : List ℕ) → Dec a → Dec b → T (E k) → floatParts (a ++ (46 ∷ (b ++ (k ∷ t)))) ≡ afterE a b t
 parse-fe a b k t d c e =
     parse-frac a b (k ∷ t) d c (λ r. dec-apart k (e-byte k e) r) ∙ rw (T-true (E k) e)
 
@@ -165,9 +165,9 @@ digits-sign : (z x : List ℕ) → T (all Run z) → T (any DEC-DIGIT z) → T (
 digits-sign [] x a n t = n
 digits-sign (k ∷ z) x a n t = sign-run k t (and-l (Run k) (all Run z) a)
 
-behind-ex : (w f e x : List ℕ) → (c : Ex e) → (T (begins Run x) → ⊥) → behindE w f ((c .sign ++ c .digits) ++ x) ≡ powers w f (c .sign) (c .digits) x
-behind-ex w f e x c n =
-    rw append-assoc (behind-e w f (c .sign) (c .digits) x (c .signed) (c .run) n (λ z. digits-sign (c .digits) x (c .run) (c .digit)))
+after-ex : (w f e x : List ℕ) → (c : Ex e) → (T (begins Run x) → ⊥) → afterE w f ((c .sign ++ c .digits) ++ x) ≡ powers w f (c .sign) (c .digits) x
+after-ex w f e x c n =
+    rw append-assoc (after-e w f (c .sign) (c .digits) x (c .signed) (c .run) n (λ z. digits-sign (c .digits) x (c .run) (c .digit)))
 
 -- ---- a literal is read
 
@@ -240,7 +240,7 @@ float-reading s i = go (i .ending)
         let P = powers a [] (c .sign) (c .digits) (i .suffix) in
         reading s (i .part) a (c .letter ∷ ((c .sign ++ c .digits) ++ i .suffix)) P
         (whole-is a e q ∙ ap (λ (u : List ℕ). a ++ (u ++ i .suffix)) (c .is)) d
-        (parse-e a (c .letter) _ d (c .is-e) ∙ behind-ex a [] e (i .suffix) c n) (and-i (any DEC-DIGIT (c .digits)) _ (c .digit) sx)
+        (parse-e a (c .letter) _ d (c .is-e) ∙ after-ex a [] e (i .suffix) c n) (and-i (any DEC-DIGIT (c .digits)) _ (c .digit) sx)
         (ap floatValue (q ∙ ap (λ (u : List ℕ). a ++ u) (c .is)) ∙ value-powers a a [] (c .letter) (c .sign) (c .digits) (mantissa-whole a d) (c .is-e) (c .signed) (c .run))
 
     both : (a b e : List ℕ) → Dec a → Dec b → Ex e → i .part ≡ a ++ (46 ∷ (b ++ e)) → T (suffixOk (i .suffix)) → Reading s (i .part) (i .suffix)
@@ -251,7 +251,7 @@ float-reading s i = go (i .ending)
         let P = powers a b (c .sign) (c .digits) (i .suffix) in
         reading s (i .part) a (46 ∷ (b ++ (c .letter ∷ ((c .sign ++ c .digits) ++ i .suffix)))) P
         (whole-is a _ q ∙ ap (λ (u : List ℕ). a ++ (46 ∷ u)) (append-assoc b e (i .suffix)) ∙ ap (λ (u : List ℕ). a ++ (46 ∷ (b ++ (u ++ i .suffix)))) (c .is)) d
-        (parse-fe a b (c .letter) _ d f (c .is-e) ∙ behind-ex a b e (i .suffix) c n) (and-i (any DEC-DIGIT (c .digits)) _ (c .digit) sx)
+        (parse-fe a b (c .letter) _ d f (c .is-e) ∙ after-ex a b e (i .suffix) c n) (and-i (any DEC-DIGIT (c .digits)) _ (c .digit) sx)
         (ap floatValue (q ∙ ap (λ (u : List ℕ). a ++ (46 ∷ (b ++ u))) (c .is) ∙ sym (append-assoc a (46 ∷ b) (c .letter ∷ (c .sign ++ c .digits))))
         ∙ value-powers (a ++ (46 ∷ b)) a b (c .letter) (c .sign) (c .digits) (mantissa-point a b d (dec-all f)) (c .is-e) (c .signed) (c .run))
 
@@ -312,11 +312,11 @@ begins-eq f u v e t = subst⁻¹ (λ (w : List ℕ). T (begins f w)) e t
 run-most : (t z y : List ℕ) → t ≡ z ++ y → T (all Run z) → length z ≤ length (takeWhile Run t)
 run-most t z y e a = rw e (span-most Run z y a)
 
-stage : (w f r : List ℕ) → T (begins E r) → T (behindE w f (drop 1 r) .ok) → Stage r
+stage : (w f r : List ℕ) → T (begins E r) → T (afterE w f (drop 1 r) .ok) → Stage r
 stage w f [] b ok = absurd b
 stage w f (k ∷ t) b ok = go (begins SIGN t) refl ok
   where
-    unsigned : (T (begins SIGN t) → ⊥) → T (behindSign w f false t .ok) → Stage (k ∷ t)
+    unsigned : (T (begins SIGN t) → ⊥) → T (afterSign w f false t .ok) → Stage (k ∷ t)
     unsigned n o =
         record {
           e = k ∷ takeWhile Run t;
@@ -333,7 +333,7 @@ stage w f (k ∷ t) b ok = go (begins SIGN t) refl ok
               (c .signed);
         }
 
-    signed-at : (t : List ℕ) → T (begins SIGN t) → (n : Bool) → T (behindSign w f n (drop 1 t) .ok) → Stage (k ∷ t)
+    signed-at : (t : List ℕ) → T (begins SIGN t) → (n : Bool) → T (afterSign w f n (drop 1 t) .ok) → Stage (k ∷ t)
     signed-at [] s n o = absurd s
     signed-at (c′ ∷ t) s n o =
         record {
@@ -352,7 +352,7 @@ stage w f (k ∷ t) b ok = go (begins SIGN t) refl ok
               (c .signed);
         }
 
-    go : (v : Bool) → begins SIGN t ≡ v → T (cond v (behindSign w f (begins (byte 45) t) (drop 1 t)) (behindSign w f false t) .ok) → Stage (k ∷ t)
+    go : (v : Bool) → begins SIGN t ≡ v → T (cond v (afterSign w f (begins (byte 45) t) (drop 1 t)) (afterSign w f false t) .ok) → Stage (k ∷ t)
     go true e o = signed-at t (true-T _ e) (begins (byte 45) t) o
     go false e o = unsigned (λ s. rw e at s) o
 
@@ -462,13 +462,13 @@ exp-empty-out s m ok = go (o .0) (o .3) (o .2) refl
     tail : List ℕ
     tail = g .0 ++ (g .1 ++ v)
 
-    -- what stands behind the fraction
+    -- what stands after the fraction
     rest : o .1 ++ v ≡ k ∷ tail
     rest = ap (λ (y : List ℕ). y ++ v) (x .2 ∙ ap (λ (y : List ℕ). y ++ x .1) (x .3 .1) ∙ ap (λ (y : List ℕ). k ∷ y) (g .2)) ∙ ap (λ (y : List ℕ). k ∷ y) (append-assoc (g .0) (g .1) v)
 
-    refuse : (w f : List ℕ) → T (behindE w f tail .ok) → ⊥
+    refuse : (w f : List ℕ) → T (afterE w f tail .ok) → ⊥
     refuse w f t =
-        let e = behind-e w f (g .0) (g .1) v (g .3) (low-more DEC-DIGIT (g .1) (g .4)) (stop v refl (m .3)) (λ z. no-sign z (g .1) refl (g .4) v refl) in
+        let e = after-e w f (g .0) (g .1) v (g .3) (low-more DEC-DIGIT (g .1) (g .4)) (stop v refl (m .3)) (λ z. no-sign z (g .1) refl (g .4) v refl) in
         no-any DEC-DIGIT (λ i l b. low-dec i l b) (g .1) (g .4) (and-l (any DEC-DIGIT (g .1)) (suffixOk v) (rw e at t))
 
     at-whole : s ≡ a .0 ++ (a .1 ++ v)
@@ -516,10 +516,10 @@ float-in s okay = start (begins (byte 46) r) refl ok
     r = dropWhile Run s
 
     d : Dec w
-    d = dec-open w (dec-first s (and-l (begins DEC-DIGIT s) (behindWhole w r .ok) okay))
+    d = dec-open w (dec-first s (and-l (begins DEC-DIGIT s) (afterWhole w r .ok) okay))
 
-    ok : T (behindWhole w r .ok)
-    ok = and-r (begins DEC-DIGIT s) (behindWhole w r .ok) okay
+    ok : T (afterWhole w r .ok)
+    ok = and-r (begins DEC-DIGIT s) (afterWhole w r .ok) okay
 
     build : (p x : List ℕ) → r ≡ p ++ x → Open (w ++ p) → T (begins (byte 46 ∪ E) r)
         → ((q y : List ℕ) → View w r q y → length q ≤ length w + length p)
@@ -538,7 +538,7 @@ float-in s okay = start (begins (byte 46) r) refl ok
         }
 
     -- r starts with an exponent
-    exponent : T (begins E r) → T (behindE w [] (drop 1 r) .ok) → FLOAT-LITERAL s
+    exponent : T (begins E r) → T (afterE w [] (drop 1 r) .ok) → FLOAT-LITERAL s
     exponent b o =
         let g = stage w [] r b o in
         let not-point : (y : List ℕ) → r ≡ 46 ∷ y → ⊥ = λ y e. e-not-point (begins-eq E (46 ∷ y) r (sym e) b) in
@@ -563,17 +563,17 @@ float-in s okay = start (begins (byte 46) r) refl ok
     point-is : begins (byte 46) r ≡ true → r ≡ 46 ∷ r2
     point-is e = let h = drop-one (byte 46) r (true-T _ e) in h .1 ∙ ap (λ (k : ℕ). k ∷ r2) (eqb→eq (h .0) 46 (h .2))
 
-    -- a part seen behind the period
+    -- a part seen after the period
     no-ex : r ≡ 46 ∷ r2 → (e y : List ℕ) → Ex e → r ≡ e ++ y → ⊥
     no-ex p e y c h = e-not-point (begins-eq E (46 ∷ r2) (e ++ y) (sym p ∙ h) (ex-begins y c))
 
-    behind : (p : r ≡ 46 ∷ r2) (z : List ℕ) → r ≡ 46 ∷ z → r2 ≡ z
-    behind p z h = tail-eq-of-cons-eq (sym p ∙ h)
+    past : (p : r ≡ 46 ∷ r2) (z : List ℕ) → r ≡ 46 ∷ z → r2 ≡ z
+    past p z h = tail-eq-of-cons-eq (sym p ∙ h)
 
     both-split : (b e y : List ℕ) → Dec b → Ex e → r2 ≡ b ++ (e ++ y) → (f ≡ b) × (r3 ≡ e ++ y)
     both-split b e y d c h = front-eq r2 b (e ++ y) h d (begins-point-e (e ++ y) (ex-begins y c))
 
-    fraction : (p : r ≡ 46 ∷ r2) → Dec f → (b : Bool) → begins E r3 ≡ b → T (cond b (behindE w f (drop 1 r3)) (without true w f r3) .ok) → FLOAT-LITERAL s
+    fraction : (p : r ≡ 46 ∷ r2) → Dec f → (b : Bool) → begins E r3 ≡ b → T (cond b (afterE w f (drop 1 r3)) (without true w f r3) .ok) → FLOAT-LITERAL s
     fraction p df true e o =
         let t = true-T (begins E r3) e in
         let g = stage w f r3 t o in
@@ -581,10 +581,10 @@ float-in s okay = start (begins (byte 46) r) refl ok
         (o-both w f (g .e) d df (g .ex) refl) (rw p tt)
         (λ q y v. elim v [
           | v-point h l ↦ omega (arith, l)
-          | v-frac b c h l ↦ (let k = run-most r2 b y (behind p (b ++ y) h) (dec-all c) in omega (arith, k, l, length-append f (g .e)))
+          | v-frac b c h l ↦ (let k = run-most r2 b y (past p (b ++ y) h) (dec-all c) in omega (arith, k, l, length-append f (g .e)))
           | v-exp x c h l ↦ absurd (no-ex p x y c h)
           | v-both b x c i h l ↦ (
-              let j = both-split b x y c i (behind p (b ++ (x ++ y)) h) in
+              let j = both-split b x y c i (past p (b ++ (x ++ y)) h) in
               let k = g .most x y (j .1) i in
               omega (arith, k, l, length-append f (g .e), ap length (j .0)))
         ])
@@ -593,10 +593,10 @@ float-in s okay = start (begins (byte 46) r) refl ok
         build (46 ∷ f) r3 (p ∙ ap (λ (u : List ℕ). 46 ∷ u) (span-eq Run r2)) (o-frac w f d df refl) (rw p tt)
         (λ q y v. elim v [
           | v-point h l ↦ omega (arith, l)
-          | v-frac b c h l ↦ (let k = run-most r2 b y (behind p (b ++ y) h) (dec-all c) in omega (arith, k, l))
+          | v-frac b c h l ↦ (let k = run-most r2 b y (past p (b ++ y) h) (dec-all c) in omega (arith, k, l))
           | v-exp x c h l ↦ absurd (no-ex p x y c h)
           | v-both b x c i h l ↦ (
-              let j = both-split b x y c i (behind p (b ++ (x ++ y)) h) in
+              let j = both-split b x y c i (past p (b ++ (x ++ y)) h) in
               let k : T (begins E r3) = begins-eq E r3 (x ++ y) (j .1) (ex-begins y i) in
               absurd (rw e at k))
         ])
@@ -607,24 +607,24 @@ float-in s okay = start (begins (byte 46) r) refl ok
     is-empty (c ∷ z) t = absurd t
 
     point : (p : r ≡ 46 ∷ r2) → (b : Bool) → begins DEC-DIGIT r2 ≡ b
-        → T (cond b (behindFraction true w f r3) (record { ok = empty r2; whole = w; fraction = []; negative = false; exponent = []; suffix = r2 }) .ok) → FLOAT-LITERAL s
+        → T (cond b (afterFraction true w f r3) (record { ok = empty r2; whole = w; fraction = []; negative = false; exponent = []; suffix = r2 }) .ok) → FLOAT-LITERAL s
     point p true e o = fraction p (dec-open f (dec-first r2 (true-T _ e))) (begins E r3) refl o
     point p false e o =
         let z = is-empty r2 o in
         build (46 ∷ []) [] (p ∙ ap (λ (u : List ℕ). 46 ∷ u) z) (o-point w d refl) (rw p tt)
         (λ q y v. elim v [
           | v-point h l ↦ omega (arith, l)
-          | v-frac b c h l ↦ omega (arith, l, ap length (sym z ∙ behind p (b ++ y) h), length-append b y)
+          | v-frac b c h l ↦ omega (arith, l, ap length (sym z ∙ past p (b ++ y) h), length-append b y)
           | v-exp x c h l ↦ absurd (no-ex p x y c h)
-          | v-both b x c i h l ↦ omega (arith, l, ap length (sym z ∙ behind p (b ++ (x ++ y)) h), length-append b (x ++ y), length-append x y)
+          | v-both b x c i h l ↦ omega (arith, l, ap length (sym z ∙ past p (b ++ (x ++ y)) h), length-append b (x ++ y), length-append x y)
         ])
         (inl ((w, 46 ∷ [], refl, dec-lit d, refl), refl))
 
-    none : (b : Bool) → begins E r ≡ b → T (cond b (behindE w [] (drop 1 r)) (without false w [] r) .ok) → FLOAT-LITERAL s
+    none : (b : Bool) → begins E r ≡ b → T (cond b (afterE w [] (drop 1 r)) (without false w [] r) .ok) → FLOAT-LITERAL s
     none true e o = exponent (true-T _ e) o
     none false e o = absurd o
 
-    start : (b : Bool) → begins (byte 46) r ≡ b → T (cond b (behindPoint w (drop 1 r)) (behindFraction false w [] r) .ok) → FLOAT-LITERAL s
+    start : (b : Bool) → begins (byte 46) r ≡ b → T (cond b (afterPoint w (drop 1 r)) (afterFraction false w [] r) .ok) → FLOAT-LITERAL s
     start true e o = point (point-is e) (begins DEC-DIGIT r2) refl o
     start false e o = none (begins E r) refl o
 

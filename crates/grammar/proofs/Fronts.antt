@@ -38,11 +38,11 @@ sizeOf (code n v) = n
 sizeOf (scalar n v) = n
 sizeOf (blank n) = n
 
--- the letter behind the backslash, where it says all
+-- the letter after the backslash, where it says all
 abbrev letter : ℕ → ℕ
 letter c = cond (eqb c 110) 10 (cond (eqb c 114) 13 (cond (eqb c 116) 9 (cond (eqb c 48) 0 c)))
 
--- behind the backslash
+-- after the backslash
 abbrev escaped : List ℕ → Found
 escaped [] = plain 92
 escaped (c ∷ s) =
@@ -103,7 +103,7 @@ unicode-found {t} {v} x m =
     let b = before-stop (byte 125) (HEX-DIGIT ∪ LOW) no-brace (m .digits) 125 x (groups-all (m .count) (m .digits) (m .groups)) tt .0 in
     rw (m .is, m .value, append-assoc, b) (ap (λ (n : ℕ). scalar n (numberIn 16 (m .digits))) (omega (arith, length-append (m .digits) (125 ∷ []))))
 
--- all whitespace behind the line break, up to the quote
+-- all whitespace after the line break, up to the quote
 blanks-end : (r x : List ℕ) → (T (begins WHITESPACE r) → ⊥) → T (begins WHITESPACE (r ++ (34 ∷ x))) → ⊥
 unfolding WHITESPACE
 blanks-end [] x n t = t
@@ -246,7 +246,7 @@ byte-reads t v x (BYTE-CONTENT.ascii e n) =
     rw (e, plain-found v x (not-in (byte 39 ∪ byte 92 ∪ byte 10 ∪ byte 13 ∪ byte 9) 92 v m tt))
 byte-reads t v x (BYTE-CONTENT.escape m) = rw (byte-found x m)
 
--- a content that its front tells is determined, and so is what stands behind its apostrophe
+-- a content that its front tells is determined, and so is what stands after its apostrophe
 module _ (Content : List ℕ → ℕ → Type 0) (of : Found → List ℕ → ℕ × ℕ)
     (reads : (t : List ℕ) (v : ℕ) (x : List ℕ) → Content t v → of (found (t ++ x)) (t ++ x) ≡ (length t, v)) where
   content-unique : (t t′ : List ℕ) (v v′ : ℕ) (x y : List ℕ) → Content t v → Content t′ v′ → t ++ (39 ∷ x) ≡ t′ ++ (39 ∷ y)

@@ -372,7 +372,7 @@ pub low-more : (d : Class) (r : List ℕ) → T (all LOW r) → T (all (d ∪ LO
 low-more d [] a = tt
 low-more d (k ∷ r) a = and-i ((d ∪ LOW) k) _ (or-r (d k) (LOW k) (and-l (LOW k) (all LOW r) a)) (low-more d r (and-r (LOW k) (all LOW r) a))
 
--- a prefix with underscores, as many as there are, and no digit behind them
+-- a prefix with underscores, as many as there are, and no digit after them
 pub record Empty (c : ℕ) (d : Class) (t : List ℕ) : Type 0 where
   pub lows : List ℕ
   pub back : List ℕ
@@ -488,7 +488,7 @@ module _ (c : ℕ) (d : Class) (w : Apart c d)
       (all-append (d ∪ LOW) (r .rest) (k ∷ []) (r .run) (and-i ((d ∪ LOW) k) true t tt)) (any-left d (r .rest) (k ∷ []) (r .digit))))) in
       omega (arith, h, length-append p (k ∷ []))
 
-  -- a part of one byte: the prefix has no digits behind it, which is reserved, or there is a longer part
+  -- a part of one byte: the prefix has no digits after it, which is reserved, or there is a longer part
   radix-short : (t : List ℕ) → (i : INTEGER-LITERAL (48 ∷ c ∷ t)) → length (i .part) ≤ 1 → ⊥
   radix-short t i h = go (any d (takeWhile (d ∪ LOW) t)) refl
     where

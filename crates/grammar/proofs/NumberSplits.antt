@@ -11,7 +11,7 @@ use Rattle.grammar.specs.Suffixes.{DEC-DIGIT, E}
 use Rattle.grammar.specs.Numbers.{BIN-DIGIT, OCT-DIGIT, HEX-DIGIT, INTEGER-PART, INTEGER-LITERAL, POINT-PART, FRACTION-PART, EXPONENT-PART, FLOAT-LITERAL}
 use Rattle.grammar.specs.Values.{integerValue}
 use Rattle.grammar.specs.Meaning.{Worth, Means, is-integer, is-float}
-use Rattle.grammar.proofs.Scan.{takeWhile, dropWhile, any, suffixOk, digitsOk, prefixed, integerOk, integerPart, integerSuffix, decimalOf, Run, floatParts, floatOk, behindPoint, behindFraction, behindE, without}
+use Rattle.grammar.proofs.Scan.{takeWhile, dropWhile, any, suffixOk, digitsOk, prefixed, integerOk, integerPart, integerSuffix, decimalOf, Run, floatParts, floatOk, afterPoint, afterFraction, afterE, without}
 use Rattle.grammar.proofs.Runs.{true-T, and-l, and-r, or-l, or-r, span-eq}
 use Rattle.grammar.proofs.Integers.{Apart, Exponent, dec-open, dec-first, prefix-is, suffix-point, bin-apart, oct-apart, hex-apart, integer-iff, integer-split}
 use Rattle.grammar.proofs.Floats.{no-prefix, float-iff, float-split}
@@ -52,17 +52,17 @@ pub float-first : (s : List ℕ) → FLOAT-LITERAL s → T (begins DEC-DIGIT s)
 unfolding floatOk
 float-first s i = and-l (begins DEC-DIGIT s) (floatParts s .ok) (float-iff s .1 i)
 
--- ---- a float has a period or an e behind its first digits, an integer has not
+-- ---- a float has a period or an e after its first digits, an integer has not
 
-float-next : (w r : List ℕ) → T (cond (begins (byte 46) r) (behindPoint w (drop 1 r)) (behindFraction false w [] r) .ok) → T (begins (byte 46 ∪ E) r)
+float-next : (w r : List ℕ) → T (cond (begins (byte 46) r) (afterPoint w (drop 1 r)) (afterFraction false w [] r) .ok) → T (begins (byte 46 ∪ E) r)
 float-next w [] t = t
 float-next w (k ∷ r) t = point (byte 46 k) refl t
   where
-    letter : (b : Bool) → E k ≡ b → T (cond b (behindE w [] r) (without false w [] (k ∷ r)) .ok) → T ((byte 46 ∪ E) k)
+    letter : (b : Bool) → E k ≡ b → T (cond b (afterE w [] r) (without false w [] (k ∷ r)) .ok) → T ((byte 46 ∪ E) k)
     letter true e t = or-r (byte 46 k) (E k) (true-T _ e)
     letter false e t = absurd t
 
-    point : (b : Bool) → byte 46 k ≡ b → T (cond b (behindPoint w r) (behindFraction false w [] (k ∷ r)) .ok) → T ((byte 46 ∪ E) k)
+    point : (b : Bool) → byte 46 k ≡ b → T (cond b (afterPoint w r) (afterFraction false w [] (k ∷ r)) .ok) → T ((byte 46 ∪ E) k)
     point true e t = or-l (byte 46 k) (E k) (true-T _ e)
     point false e t = letter (E k) refl t
 

@@ -9,7 +9,7 @@ use native.Mathlib.Omega.{arith}
 use lib.Dec.{T}
 use lib.ListN.{length}
 use Rattle.grammar.specs.Notation.{Class, all, begins, _∪_, one, many, _·_}
-use Rattle.grammar.specs.Values.{before, behind}
+use Rattle.grammar.specs.Values.{before, after}
 use Rattle.grammar.proofs.Scan.{takeWhile, dropWhile, any}
 
 -- ---- tests
@@ -140,8 +140,8 @@ any-left d (c ∷ x) y h =
 -- ---- the first byte of a set
 
 module _ (f g : Class) (apart : (k : ℕ) → T (g k) → T (f k) → ⊥) where
-  -- behind bytes that are not of the set it is certain
-  pub before-stop : (d : List ℕ) (c : ℕ) (x : List ℕ) → T (all g d) → T (f c) → (before f (d ++ (c ∷ x)) ≡ d) × (behind f (d ++ (c ∷ x)) ≡ x)
+  -- after bytes that are not of the set it is certain
+  pub before-stop : (d : List ℕ) (c : ℕ) (x : List ℕ) → T (all g d) → T (f c) → (before f (d ++ (c ∷ x)) ≡ d) × (after f (d ++ (c ∷ x)) ≡ x)
   before-stop [] c x a t = let e = T-true (f c) t in (rw e, rw e)
   before-stop (k ∷ d) c x a t =
       let h = before-stop d c x (and-r (g k) _ a) t in
@@ -149,7 +149,7 @@ module _ (f g : Class) (apart : (k : ℕ) → T (g k) → T (f k) → ⊥) where
       (rw e (ap (λ (l : List ℕ). k ∷ l) (h .0)), rw e (h .1))
 
   -- or there is none
-  pub before-none : (d : List ℕ) → T (all g d) → (before f d ≡ d) × (behind f d ≡ [])
+  pub before-none : (d : List ℕ) → T (all g d) → (before f d ≡ d) × (after f d ≡ [])
   before-none [] a = (refl, refl)
   before-none (k ∷ d) a =
       let h = before-none d (and-r (g k) _ a) in

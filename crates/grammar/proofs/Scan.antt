@@ -81,9 +81,9 @@ decimalOf p = scaled (p .whole) (p .fraction) (p .negative) (p .exponent)
 abbrev pub Run : Class
 Run = DEC-DIGIT ∪ LOW
 
--- behind the e and the sign
-abbrev pub behindSign : List ℕ → List ℕ → Bool → List ℕ → Parts
-behindSign w f n r =
+-- after the e and the sign
+abbrev pub afterSign : List ℕ → List ℕ → Bool → List ℕ → Parts
+afterSign w f n r =
     record {
       ok = any DEC-DIGIT (takeWhile Run r) && suffixOk (dropWhile Run r);
       whole = w;
@@ -93,29 +93,29 @@ behindSign w f n r =
       suffix = dropWhile Run r;
     }
 
--- behind the e
-abbrev pub behindE : List ℕ → List ℕ → List ℕ → Parts
-behindE w f r = cond (begins SIGN r) (behindSign w f (begins (byte 45) r) (drop 1 r)) (behindSign w f false r)
+-- after the e
+abbrev pub afterE : List ℕ → List ℕ → List ℕ → Parts
+afterE w f r = cond (begins SIGN r) (afterSign w f (begins (byte 45) r) (drop 1 r)) (afterSign w f false r)
 
 -- no exponent: fine where there was a period
 abbrev pub without : Bool → List ℕ → List ℕ → List ℕ → Parts
 without p w f r = record { ok = p && suffixOk r; whole = w; fraction = f; negative = false; exponent = []; suffix = r }
 
-abbrev pub behindFraction : Bool → List ℕ → List ℕ → List ℕ → Parts
-behindFraction p w f r = cond (begins E r) (behindE w f (drop 1 r)) (without p w f r)
+abbrev pub afterFraction : Bool → List ℕ → List ℕ → List ℕ → Parts
+afterFraction p w f r = cond (begins E r) (afterE w f (drop 1 r)) (without p w f r)
 
--- behind the period: digits, not starting with `_`; or the end
-abbrev pub behindPoint : List ℕ → List ℕ → Parts
-behindPoint w r =
+-- after the period: digits, not starting with `_`; or the end
+abbrev pub afterPoint : List ℕ → List ℕ → Parts
+afterPoint w r =
     cond (begins DEC-DIGIT r)
-    (behindFraction true w (takeWhile Run r) (dropWhile Run r))
+    (afterFraction true w (takeWhile Run r) (dropWhile Run r))
     (record { ok = empty r; whole = w; fraction = []; negative = false; exponent = []; suffix = r })
 
-abbrev pub behindWhole : List ℕ → List ℕ → Parts
-behindWhole w r = cond (begins (byte 46) r) (behindPoint w (drop 1 r)) (behindFraction false w [] r)
+abbrev pub afterWhole : List ℕ → List ℕ → Parts
+afterWhole w r = cond (begins (byte 46) r) (afterPoint w (drop 1 r)) (afterFraction false w [] r)
 
 unfoldable pub floatParts : List ℕ → Parts
-floatParts s = behindWhole (takeWhile Run s) (dropWhile Run s)
+floatParts s = afterWhole (takeWhile Run s) (dropWhile Run s)
 
 unfoldable pub floatOk : List ℕ → Bool
 floatOk s = begins DEC-DIGIT s && floatParts s .ok

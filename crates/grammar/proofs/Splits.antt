@@ -26,14 +26,14 @@ longest-unique A s p x q y a b =
 
 -- ---- pieces up to the quote
 
--- What makes a body's end certain: with the closing quote behind the rest r, no piece begins with the quote, and what stands at the front tells
+-- What makes a body's end certain: with the closing quote after the rest r, no piece begins with the quote, and what stands at the front tells
 -- the piece and its worth.
 pub record Needs (Piece : List ℕ → List ℕ → List ℕ → Type 0) : Type 0 where
   pub inner : (t w r x y : List ℕ) → Piece t w r → 34 ∷ x ≡ t ++ (r ++ (34 ∷ y)) → ⊥
   pub alone : (t w r t′ w′ r′ x y : List ℕ) → Piece t w r → Piece t′ w′ r′ → t ++ (r ++ (34 ∷ x)) ≡ t′ ++ (r′ ++ (34 ∷ y)) → (t ≡ t′) × (w ≡ w′)
 
 module _ (Piece : List ℕ → List ℕ → List ℕ → Type 0) (n : Needs Piece) where
-  -- the body, its worth and what stands behind its quote are determined
+  -- the body, its worth and what stands after its quote are determined
   pub pieces-unique : {c v d w : List ℕ} (x y : List ℕ) → Pieces Piece c v → Pieces Piece d w → c ++ (34 ∷ x) ≡ d ++ (34 ∷ y)
       → (c ≡ d) × (v ≡ w) × (x ≡ y)
   pieces-unique x y none none e = (refl, refl, tail-eq-of-cons-eq e)
@@ -65,7 +65,7 @@ closing-unique n v w x y e a b =
     let h = same-split v w (closing n x) (closing n y) (le-antisymm a b) e in
     (h .0, append-cancel-left (times n 35) x y (tail-eq-of-cons-eq (h .1)))
 
--- behind one opening the number of hashes, the body and the suffix of a raw string are determined
+-- after one opening the number of hashes, the body and the suffix of a raw string are determined
 pub raw-unique : (f : Class) (opening s v w x y : List ℕ) → (a : Raw f opening s v x) → (b : Raw f opening s w y)
     → (a .hashes ≡ b .hashes) × (v ≡ w) × (x ≡ y)
 raw-unique f opening s v w x y a b =

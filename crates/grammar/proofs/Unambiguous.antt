@@ -37,20 +37,20 @@ pub data Kind : Type 0 where
   c-string-k : Kind
   raw-c-string-k : Kind
 
--- behind `b`, and behind `c`
-abbrev behindB : ℕ → Kind
-behindB c = cond (eqb c 39) byte-k (cond (eqb c 34) byte-string-k raw-byte-string-k)
+-- after `b`, and after `c`
+abbrev afterB : ℕ → Kind
+afterB c = cond (eqb c 39) byte-k (cond (eqb c 34) byte-string-k raw-byte-string-k)
 
-abbrev behindC : ℕ → Kind
-behindC c = cond (eqb c 34) c-string-k raw-c-string-k
+abbrev afterC : ℕ → Kind
+afterC c = cond (eqb c 34) c-string-k raw-c-string-k
 
 abbrev kindBy : ℕ → ℕ → Kind
 kindBy a b =
     cond (eqb a 39) char-k
     (cond (eqb a 34) string-k
     (cond (eqb a 114) raw-string-k
-    (cond (eqb a 98) (behindB b)
-    (cond (eqb a 99) (behindC b)
+    (cond (eqb a 98) (afterB b)
+    (cond (eqb a 99) (afterC b)
     (cond (eqb a 116) true-k
     (cond (eqb a 102) false-k
     number-k))))))

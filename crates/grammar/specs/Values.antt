@@ -51,9 +51,9 @@ abbrev pub before : Class → List ℕ → List ℕ
 before f [] = []
 before f (c ∷ s) = cond (f c) [] (c ∷ before f s)
 
-abbrev pub behind : Class → List ℕ → List ℕ
-behind f [] = []
-behind f (c ∷ s) = cond (f c) s (behind f s)
+abbrev pub after : Class → List ℕ → List ℕ
+after f [] = []
+after f (c ∷ s) = cond (f c) s (after f s)
 
 -- the number of a mantissa's digits w . f times ten to the power of an exponent's digits, whose sign is given
 abbrev pub scaled : List ℕ → List ℕ → Bool → List ℕ → Decimal
@@ -73,4 +73,4 @@ powered w f ex = scaled w f (begins (byte 45) ex) (cond (begins SIGN ex) (drop 1
 -- digits, a period and digits or none, and after `e` or `E` the exponent
 -- 46 is `.`
 unfoldable pub floatValue : List ℕ → Decimal
-floatValue part = powered (before (byte 46) (before E part)) (behind (byte 46) (before E part)) (behind E part)
+floatValue part = powered (before (byte 46) (before E part)) (after (byte 46) (before E part)) (after E part)

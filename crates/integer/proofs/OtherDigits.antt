@@ -53,7 +53,7 @@ unprefixed (a ∷ []) suf h l (inl z) = sym (base-other (a ∷ suf) z)
 unprefixed (a ∷ []) suf h l (inr (inl z)) = absurd (omega arith)
 unprefixed (a ∷ []) suf h l (inr (inr z)) = base-ten (a ∷ suf) (z .0) (z .1 .0) (z .1 .1)
 
--- they have the same suffix behind them
+-- they have the same suffix after them
 pub other-parts : {base : ℕ} {pre main suf : List ℕ} → IntegerParts base pre main suf → (d : List ℕ) → All decDigit d → 0 < length d → Unprefixed d suf → IntegerParts 10 [] d suf
 other-parts {suf = suf} p d h l u =
     record { prefix = dec; digits = plain-digits d h; some = plain-some d h l; longest = longest suf p; suffix = p .suffix; no-e = p .no-e; first = plain-first d h l; plain = unprefixed d suf h l u }

@@ -16,7 +16,7 @@ use Rattle.scan.specs.Sets.{only}
 use Rattle.scan.proofs.Cases.{cond-in, cond-eq}
 use Rattle.scan.proofs.Runs.{run-le, run-all, run-stops, run-is}
 use Rattle.parse.specs.Sets.{digit, decDigit}
-use Rattle.parse.proofs.Numbers.{e-behind}
+use Rattle.parse.proofs.Numbers.{e-after}
 use Rattle.integer.specs.Integer.{baseAt, prefixLen, mainLen, mainPart, afterSuffix, afterDigits, integerOf, integerAt, integerRead}
 use Rattle.integer.specs.Parts.{Prefixed, dec, bin, oct, hex, IntegerParts, Tiled}
 use Rattle.integer.proofs.Suffixed.{suffix-passed, digits-passed}
@@ -67,7 +67,7 @@ sound s k e v h =
       some = some;
       longest = run-stops (digit base) rest;
       suffix = rw drop-drop (good .0);
-      no-e = rw (drop-drop, e-behind) (found .0);
+      no-e = rw (drop-drop, e-after) (found .0);
       first = ap decDigit first ∙ read .0;
       plain = ap baseAt (sym cut);
     } in
@@ -88,7 +88,7 @@ module _ {base : ℕ} {pre main suf : List ℕ} (h : IntegerParts base pre main 
   of-parts : integerOf (pre ++ (main ++ suf)) base (length pre) (length main) ≡ accepted 2 (length pre + length main) (digits (record { base = base; start = length pre; end = length pre + length main }))
   unfolding integerOf afterSuffix afterDigits
   of-parts =
-      rw (← e-behind (pre ++ (main ++ suf)) (length pre + length main), drop-append-add, drop-append-seam main suf, h .suffix, h .no-e, drop-append-seam, take-append-seam, ne-eqb (run (only 95) main) (length main) (λ e. omega (arith, h .some)))
+      rw (← e-after (pre ++ (main ++ suf)) (length pre + length main), drop-append-add, drop-append-seam main suf, h .suffix, h .no-e, drop-append-seam, take-append-seam, ne-eqb (run (only 95) main) (length main) (λ e. omega (arith, h .some)))
 
   first-digit : decDigit (getD (pre ++ (main ++ suf)) 0 0) ≡ true
   first-digit = rw (← append-assoc, List·getD-append (pre ++ main) suf 0 0 (omega (arith, h .some, length-append pre main))) (h .first)

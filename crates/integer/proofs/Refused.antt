@@ -22,9 +22,9 @@ use Rattle.integer.specs.Integer.{baseAt, prefixLen, mainLen, afterSuffi
 use Rattle.integer.proofs.Bases.{base-short}
 
 -- what a refusal of a text of m bytes says
-abbrev Told : ℕ → Outcome → Type 0
-Told m (refused n p) = RefusedIn m n p
-Told m (accepted k e vs) = Unit {0}
+abbrev RefusedWithin : ℕ → Outcome → Type 0
+RefusedWithin m (refused n p) = RefusedIn m n p
+RefusedWithin m (accepted k e vs) = Unit {0}
 
 -- ---- what stands inside the text
 
@@ -46,32 +46,32 @@ main-inside s =
 -- ---- the tests in their order
 
 module _ (s : List ℕ) where
-  after-suffix : (e : ℕ) (next : Outcome) → e ≤ length s → Told (length s) next → Told (length s) (afterSuffix s e next)
+  after-suffix : (e : ℕ) (next : Outcome) → e ≤ length s → RefusedWithin (length s) next → RefusedWithin (length s) (afterSuffix s e next)
   unfolding afterSuffix
   after-suffix e next h t =
-      cond-eq (Told (length s)) (suffixFault (drop e s)) 0 (λ z. t)
-      (λ z. cond-in (Told (length s)) (decDigit (getD s e 0))
+      cond-eq (RefusedWithin (length s)) (suffixFault (drop e s)) 0 (λ z. t)
+      (λ z. cond-in (RefusedWithin (length s)) (decDigit (getD s e 0))
       (λ d. let l = digit-inside s e d in omega arith)
       (λ d. let l = fault-small (drop e s) in omega arith))
 
-  after-digits : (start n : ℕ) (next : Outcome) → start + n ≤ length s → Told (length s) next
-      → Told (length s) (afterDigits s start (start + n) n next)
+  after-digits : (start n : ℕ) (next : Outcome) → start + n ≤ length s → RefusedWithin (length s) next
+      → RefusedWithin (length s) (afterDigits s start (start + n) n next)
   unfolding afterDigits
   after-digits start n next h t =
-      cond-in (Told (length s)) (startsE s (start + n))
+      cond-in (RefusedWithin (length s)) (startsE s (start + n))
       (λ d. let l = e-inside s (start + n) d in omega arith)
-      (λ d. cond-eq (Told (length s)) (run (only 95) (take n (drop start s))) n (λ z. omega arith) (λ z. t))
+      (λ d. cond-eq (RefusedWithin (length s)) (run (only 95) (take n (drop start s))) n (λ z. omega arith) (λ z. t))
 
-told : (s : List ℕ) → Told (length s) (integerRead s)
+known : (s : List ℕ) → RefusedWithin (length s) (integerRead s)
 unfolding integerRead integerAt integerOf
-told [] = omega arith
-told (b ∷ t) =
+known [] = omega arith
+known (b ∷ t) =
     let s = b ∷ t in
     let n = prefixLen (baseAt s) in
     let h = main-inside s in
-    cond-in (Told (length s)) (decDigit b)
+    cond-in (RefusedWithin (length s)) (decDigit b)
     (λ d. after-suffix s (n + mainLen s) _ h (after-digits s n (mainLen s) _ h tt))
     (λ d. omega arith)
 
 pub refused-in : (s : List ℕ) {n : ℕ} {p : Place} → integerRead s ≡ refused n p → RefusedIn (length s) n p
-refused-in s h = subst (Told (length s)) h (told s)
+refused-in s h = subst (RefusedWithin (length s)) h (known s)

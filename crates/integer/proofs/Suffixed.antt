@@ -1,4 +1,4 @@
--- What the check of a suffix comes to, and what has passed it and the two tests behind it.
+-- What the check of a suffix comes to, and what has passed it and the two tests after it.
 -- Assumes nothing.
 use mathlib.Core.Path.{_≡_}
 use mathlib.Core.Bool.{Bool, true, false, cond}
@@ -43,7 +43,7 @@ module _ (s : List ℕ) (e : ℕ) (next : Outcome) where
       P : Outcome → Type 0
       P o = o ≡ accepted k a v → (suffixFault (drop e s) ≡ 0) × (next ≡ accepted k a v)
 
-  -- and has no e or E behind its digits, and a byte other than `_` among them
+  -- and has no e or E after its digits, and a byte other than `_` among them
   pub digits-passed : (start n : ℕ) {k a : ℕ} {v : Values} → afterDigits s start e n next ≡ accepted k a v → (startsE s e ≡ false) × ((run (only 95) (take n (drop start s)) ≡ n → ⊥) × (next ≡ accepted k a v))
   unfolding afterDigits
   digits-passed start n {k} {a} {v} =

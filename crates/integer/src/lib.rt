@@ -149,6 +149,7 @@ fn refusal(parsed: Parsed) -> Reading
     }
 }
 
+// litrs's `IntegerLit::parse`.
 pub fn parse(text: &[u8]) -> Reading
     ensures { λ r. ⌜ outcomeOf r ≡ integerRead (now (text .entry)) ⌝ }
 {

@@ -17,12 +17,12 @@ pub enum Within {
     Over,
 }
 
-// Whether a number with one digit more is at most the largest, which divided by the base is `most`.
-fn is_within(n: u64, d: u64, by: u64, largest: u64, most: u64) -> bool
-    requires { ⌜ (most ≡ largest / by) × (2 ≤ by) ⌝ }
+// Whether a number with one digit more is at most the largest, which divided by the base is `quotient`.
+fn is_within(n: u64, d: u64, by: u64, largest: u64, quotient: u64) -> bool
+    requires { ⌜ (quotient ≡ largest / by) × (2 ≤ by) ⌝ }
     ensures { λ r. ⌜ r ≡ leb (n * by + d) largest ⌝ }
 {
-    if most < n {
+    if quotient < n {
         return false;
     }
     d <= largest - n * by
@@ -32,8 +32,8 @@ fn is_within(n: u64, d: u64, by: u64, largest: u64, most: u64) -> bool
 pub fn number_within(digits: &[u8], base: IntegerBase, largest: u64) -> Within
     ensures { λ r. ⌜ r ≡ numberWithin largest (number (baseOf base) (now (digits .entry))) ⌝ }
 {
-    let by = wide(base.value());
-    let most = largest / by;
+    let by = widen(base.value());
+    let quotient = largest / by;
     let mut n: u64 = 0;
     let mut i = 0;
     while i < digits.len() {
@@ -42,8 +42,8 @@ pub fn number_within(digits: &[u8], base: IntegerBase, largest: u64) -> Within
         if b == b'_' {
             continue;
         }
-        let d = wide(parse::class_of(b));
-        if !is_within(n, d, by, largest, most) {
+        let d = widen(parse::class_of(b));
+        if !is_within(n, d, by, largest, quotient) {
             return Within::Over;
         }
         n = n * by + d;
@@ -51,7 +51,8 @@ pub fn number_within(digits: &[u8], base: IntegerBase, largest: u64) -> Within
     Within::Number(n)
 }
 
-fn wide(x: u8) -> u64
+// A byte as a u64.
+fn widen(x: u8) -> u64
     ensures { λ r. ⌜ r ≡ x ⌝ }
 {
     x as u64

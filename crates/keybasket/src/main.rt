@@ -9,6 +9,6 @@ fn main() {
     let mut out = [0u8; MAX_LEN];
     let mut line = [0u8; MAX_LEN + 128];
     let n = io::read_full(STDIN_FILENO, &mut text);
-    let end = answers::program_line(&mut line, &text[0..n], &mut out);
+    let end = batch_record::program_line(&mut line, &text[0..n], &mut out);
     io::write_all(STDOUT_FILENO, &line[0..end]);
 }

@@ -11,8 +11,8 @@ use Rattle.err.specs.Outcome.{Values, Outcome, refused, accepted, none}
 use Rattle.scan.proofs.Cases.{cond-in, cond-eq}
 use Rattle.utf8.specs.Utf8.{Utf8}
 use Rattle.integer.proofs.Suffixed.{never}
-use Rattle.input.specs.Checks.{textFault}
-use Rattle.input.proofs.Checks.{long-fault, utf8-fault, no-fault, fault-passed}
+use Rattle.text_check.specs.Checks.{textFault}
+use Rattle.text_check.proofs.Checks.{long-fault, utf8-fault, no-fault, fault-passed}
 use Rattle.literal.specs.Readings.{anyRead, entryRead, readAt}
 use Rattle.literal.proofs.Entries.{own-entry, any-entry}
 

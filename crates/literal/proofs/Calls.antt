@@ -31,8 +31,8 @@ use Rattle.integer_value.proofs.Values.{read-value}
 use Rattle.string.specs.String.{stringKind, stringRead, stringValue}
 use Rattle.string.specs.Decode.{stringDecoded, bufferOf, bufferAfter}
 use Rattle.string.specs.Decode as decode
-use Rattle.input.specs.Checks.{textFault}
-use Rattle.input.proofs.Checks.{no-fault}
+use Rattle.text_check.specs.Checks.{textFault}
+use Rattle.text_check.proofs.Checks.{no-fault}
 use Rattle.literal.specs.Readings.{entryRead, readAt}
 use Rattle.literal.specs.Values.{checkedValue, refusedValue}
 use Rattle.literal.specs.Decodes.{checkedDecode, checkedBuffer, kindCoded, stringIn, decodeAt, decodeBuffer}
@@ -56,14 +56,14 @@ checked f code s l = rw (le-leb code 8 l) (by-test (eqb (textFault s) 0))
 abbrev notInteger : List ℕ
 notInteger = 0 ∷ 1 ∷ 3 ∷ 4 ∷ 5 ∷ 6 ∷ 7 ∷ 8 ∷ []
 
-module _ (most : ℕ) (s : List ℕ) where
+module _ (limit : ℕ) (s : List ℕ) where
   -- the reading's refusal comes through
-  pub value-read : checkedValue most s ≡ value.ofReading (readAt 2 s) (bounded most (number (baseAt s) (mainPart s)))
+  pub value-read : checkedValue limit s ≡ value.ofReading (readAt 2 s) (bounded limit (number (baseAt s) (mainPart s)))
   unfolding checkedValue integerLitValue entryRead
-  value-read = checked (λ o. value.ofReading o (bounded most (number (baseAt s) (mainPart s)))) 2 s (omega arith)
+  value-read = checked (λ o. value.ofReading o (bounded limit (number (baseAt s) (mainPart s)))) 2 s (omega arith)
 
   -- a reading by entry 2 that is no integer is refused, and so is its value
-  pub value-refused : (r : Reading) → outcomeOf r ≡ readAt 2 s → OneOf notInteger (tagOf the-type r) → refusedValue (outcomeOf r) ≡ checkedValue most s
+  pub value-refused : (r : Reading) → outcomeOf r ≡ readAt 2 s → OneOf notInteger (tagOf the-type r) → refusedValue (outcomeOf r) ≡ checkedValue limit s
   value-refused (reading.Refused k p) h o = rw (value-read, ← h) refl
   value-refused (reading.Bool l) h o = absurd (omega (arith, read-kind 2 s (omega arith) (sym h)))
   value-refused (reading.Integer l) h o = absurd (miss notInteger 2 tt o)
@@ -84,9 +84,9 @@ module _ (most : ℕ) (s : List ℕ) where
     value-ends = read-ends s integer-is
 
     -- and give the value
-    pub value-given : bounded most (number (d .base) (slice (d .start) (d .end) s)) ≡ checkedValue most s
+    pub value-given : bounded limit (number (d .base) (slice (d .start) (d .end) s)) ≡ checkedValue limit s
     unfolding checkedValue
-    value-given = let p = read-passed 2 s is in rw (no-fault s (p .1) (p .2)) (read-value most s integer-is)
+    value-given = let p = read-passed 2 s is in rw (no-fault s (p .1) (p .2)) (read-value limit s integer-is)
 
 -- ---- decoding
 

@@ -14,7 +14,7 @@ use Rattle.integer.specs.Integer.{integerRead}
 use Rattle.float.specs.Float.{floatRead}
 use Rattle.character.specs.Single.{readBy}
 use Rattle.string.specs.String.{stringRead}
-use Rattle.entries.specs.Entries.{startsFloat, numberEntry, byteEntry, entryBy, entryFor, chosenEntry}
+use Rattle.dispatch.specs.Entries.{startsFloat, numberEntry, byteEntry, entryBy, entryFor, chosenEntry}
 use Rattle.literal.specs.Readings.{numberRead, byteOrStringRead, anyBy, anyRead, entryRead, quoteIn, stringKindIn}
 use Rattle.literal.proofs.Entries.{by-code}
 

@@ -14,7 +14,7 @@ use Rattle.escape.specs.declared.Allowed.{Allowed}
 use Rattle.escape.specs.declared.Allowed.the-variants.{Text, Bytes, C}
 use Rattle.integer.proofs.Suffixed.{never}
 use Rattle.string.specs.String.{stringKind, stringRead}
-use Rattle.entries.specs.Entries.{startsFloat}
+use Rattle.dispatch.specs.Entries.{startsFloat}
 use Rattle.literal.specs.Readings.{numberRead, byteOrStringRead, anyBy, anyRead, entryRead}
 use Rattle.literal.proofs.KindLaws.{bool-kind, integer-kind, float-kind, char-kind, byte-kind, string-kind}
 use Rattle.literal.proofs.Openings.{bool-any, integer-any, float-any, char-any, byte-any, string-any}

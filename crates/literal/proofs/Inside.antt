@@ -31,7 +31,7 @@ use Rattle.literal.proofs.Lows.{low, low-boundary, low-digits, low-pref
 abbrev pub Inside : List ℕ → ℕ → Values → Type 0
 Inside s e vs = OnBoundaries s (offsets e vs) × Rising (offsets e vs) × NoLonger (length s) vs
 
--- behind an ASCII byte
+-- after an ASCII byte
 closed-boundary : (s : List ℕ) (e : ℕ) → Utf8 s → Closed s e → Boundary s e
 closed-boundary s e u c =
     let q : suc (e - 1) ≡ e = omega arith in

@@ -1,4 +1,4 @@
--- The bytes of a number before its suffix are ASCII, and behind ASCII bytes at the front of a text is a character boundary.
+-- The bytes of a number before its suffix are ASCII, and after ASCII bytes at the front of a text is a character boundary.
 -- Assumes nothing.
 use mathlib.Core.Path.{_≡_, refl, sym, subst}
 use mathlib.Core.Bool.{Bool, true}

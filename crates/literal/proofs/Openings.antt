@@ -27,7 +27,7 @@ use Rattle.character.specs.Single.{charRead, byteRead}
 use Rattle.string.specs.String.{openingBy, readBy, stringRead}
 use Rattle.string.specs.declared.Opening.{Opening}
 use Rattle.string.specs.declared.Opening.the-variants as opening
-use Rattle.entries.specs.Entries.{startsFloat}
+use Rattle.dispatch.specs.Entries.{startsFloat}
 use Rattle.literal.specs.Readings.{numberRead, byteOrStringRead, anyBy, anyRead}
 use Rattle.literal.proofs.Starts.{integer-start, float-start}
 

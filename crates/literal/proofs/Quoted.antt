@@ -7,8 +7,8 @@ use native.Mathlib.Omega.{arith}
 use lib.ListN.{length, getD}
 use Rattle.err.specs.Outcome.{Values, accepted, Rawness, notRaw, raw, value, decoded}
 use Rattle.escape.specs.declared.Allowed.{Allowed}
-use Rattle.single_quote.specs.declared.Quote.{Quote}
-use Rattle.single_quote.specs.declared.Quote.the-variants.{Char, Byte}
+use Rattle.character_quote.specs.declared.Quote.{Quote}
+use Rattle.character_quote.specs.declared.Quote.the-variants.{Char, Byte}
 use Rattle.character.specs.Single.{charRead, byteRead}
 use Rattle.character.specs.Parts.{Tiled}
 use Rattle.character.proofs.Exact.{char-sound, byte-sound, tiled-ascii}
@@ -17,7 +17,7 @@ use Rattle.string.specs.Parts as string
 use Rattle.string.proofs.Sound.{sound}
 use Rattle.string.proofs.Values.{ends-ascii, value-short}
 
--- it ends inside the text, behind an ASCII byte
+-- it ends inside the text, after an ASCII byte
 abbrev pub Closed : List ℕ → ℕ → Type 0
 Closed s e = (1 ≤ e) × (e ≤ length s) × (getD s (e - 1) 0 < 128)
 

@@ -16,39 +16,39 @@ use Rattle.integer.proofs.Refused as integer
 use Rattle.float.proofs.Refused as float
 use Rattle.character.proofs.Exact.{char-refused, byte-refused}
 use Rattle.string.proofs.Refused as string
-use Rattle.entries.specs.Entries.{startsFloat}
+use Rattle.dispatch.specs.Entries.{startsFloat}
 use Rattle.literal.specs.Readings.{numberRead, byteOrStringRead, anyBy, anyRead, entryRead}
 use Rattle.literal.proofs.Entries.{by-code}
 
 module _ (s : List ℕ) (n : ℕ) (p : Place) where
-  abbrev Told : Outcome → Type 0
-  Told o = o ≡ refused n p → RefusedIn (length s) n p
+  abbrev RefusedWithin : Outcome → Type 0
+  RefusedWithin o = o ≡ refused n p → RefusedIn (length s) n p
 
-  plain : (m : ℕ) → 1 ≤ m → m ≤ 41 → Told (refused m none)
+  plain : (m : ℕ) → 1 ≤ m → m ≤ 41 → RefusedWithin (refused m none)
   plain m a b h =
       let q : n ≡ m = cc in
       let r : p ≡ none = cc in
       rw (q, r) (a, b, tt)
 
-  number-refused : Told (numberRead s)
+  number-refused : RefusedWithin (numberRead s)
   unfolding numberRead
-  number-refused = cond-in Told (startsFloat s) (λ t. float.refused-in s) (λ t. integer.refused-in s)
+  number-refused = cond-in RefusedWithin (startsFloat s) (λ t. float.refused-in s) (λ t. integer.refused-in s)
 
-  b-refused : Told (byteOrStringRead s)
+  b-refused : RefusedWithin (byteOrStringRead s)
   unfolding byteOrStringRead
   b-refused =
-      cond-in Told (eqb (getD s 1 0) 39) (λ t. byte-refused s) λ t.
-      cond-in Told (eqb (getD s 1 0) 114 || eqb (getD s 1 0) 34) (λ t. string.refused-in Bytes s) λ t. plain 3 (omega arith) (omega arith)
+      cond-in RefusedWithin (eqb (getD s 1 0) 39) (λ t. byte-refused s) λ t.
+      cond-in RefusedWithin (eqb (getD s 1 0) 114 || eqb (getD s 1 0) 34) (λ t. string.refused-in Bytes s) λ t. plain 3 (omega arith) (omega arith)
 
-  by-refused : (b : ℕ) → Told (anyBy b s)
+  by-refused : (b : ℕ) → RefusedWithin (anyBy b s)
   unfolding anyBy
   by-refused b =
-      cond-in Told (decDigit b) (λ t. number-refused) λ t.
-      cond-in Told (eqb b 102 || eqb b 116) (λ t. boolean.refused-in s) λ t.
-      cond-in Told (eqb b 39) (λ t. char-refused s) λ t.
-      cond-in Told (eqb b 34 || eqb b 114) (λ t. string.refused-in Text s) λ t.
-      cond-in Told (eqb b 98) (λ t. b-refused) λ t.
-      cond-in Told (eqb b 99) (λ t. string.refused-in C s) λ t. plain 3 (omega arith) (omega arith)
+      cond-in RefusedWithin (decDigit b) (λ t. number-refused) λ t.
+      cond-in RefusedWithin (eqb b 102 || eqb b 116) (λ t. boolean.refused-in s) λ t.
+      cond-in RefusedWithin (eqb b 39) (λ t. char-refused s) λ t.
+      cond-in RefusedWithin (eqb b 34 || eqb b 114) (λ t. string.refused-in Text s) λ t.
+      cond-in RefusedWithin (eqb b 98) (λ t. b-refused) λ t.
+      cond-in RefusedWithin (eqb b 99) (λ t. string.refused-in C s) λ t. plain 3 (omega arith) (omega arith)
 
 any-refused : (s : List ℕ) {n : ℕ} {p : Place} → anyRead s ≡ refused n p → RefusedIn (length s) n p
 unfolding anyRead

@@ -19,13 +19,13 @@ use Rattle.integer.specs.Parts.{Prefixed, dec, bin, oct, hex, IntegerParts}
 use Rattle.integer.proofs.OtherDigits.{suffix-start}
 use Rattle.float.specs.Parts.{Fraction, no-fraction, fraction, Exponent, no-exponent, exponent, FloatParts}
 use Rattle.float.proofs.Complete.{whole-longest}
-use Rattle.entries.specs.Entries.{startsFloat}
+use Rattle.dispatch.specs.Entries.{startsFloat}
 
--- ---- numbers: by what stands behind the digits
+-- ---- numbers: by what stands after the digits
 
-behind-digits : (d r : List ℕ) → All (digit 10) d → Stops (digit 10) r → startsFloat (d ++ r) ≡ (eqb (getD r 0 0) 46 || startsE r 0)
+after-digits : (d r : List ℕ) → All (digit 10) d → Stops (digit 10) r → startsFloat (d ++ r) ≡ (eqb (getD r 0 0) 46 || startsE r 0)
 unfolding startsFloat startsE
-behind-digits d r h l =
+after-digits d r h l =
     let q : getD (d ++ r) (length d) 0 ≡ getD r 0 0 = rw add-zero at (getD-append-add d r 0 0) in
     rw (run-is (digit 10) d r h l, q)
 
@@ -35,8 +35,8 @@ no-period b t e = clash (rw e at t) refl
 
 decimal-start : (main suf : List ℕ) → IntegerParts 10 [] main suf → startsFloat (main ++ suf) ≡ false
 unfolding startsE
-decimal-start main [] p = behind-digits main [] (p .digits) (p .longest)
-decimal-start main (b ∷ suf) p = behind-digits main (b ∷ suf) (p .digits) (p .longest) ∙ rw (ne-eqb b 46 (no-period b (suffix-start p .0))) (p .no-e)
+decimal-start main [] p = after-digits main [] (p .digits) (p .longest)
+decimal-start main (b ∷ suf) p = after-digits main (b ∷ suf) (p .digits) (p .longest) ∙ rw (ne-eqb b 46 (no-period b (suffix-start p .0))) (p .no-e)
 
 by-prefix : {base : ℕ} {pre main suf : List ℕ} → Prefixed base pre → IntegerParts base pre main suf → startsFloat (pre ++ (main ++ suf)) ≡ false
 unfolding startsFloat startsE digit classOf
@@ -56,7 +56,7 @@ e-start ex suf (exponent letter sign ds e t g d m) n = rw e (rw e at t)
 
 -- a float does
 pub float-start : {whole frac ex suf : List ℕ} → FloatParts whole frac ex suf → startsFloat (whole ++ (frac ++ (ex ++ suf))) ≡ true
-float-start {whole} {frac} {ex} {suf} p = behind-digits whole (frac ++ (ex ++ suf)) (p .digits) (whole-longest p) ∙ by-fraction (p .fraction)
+float-start {whole} {frac} {ex} {suf} p = after-digits whole (frac ++ (ex ++ suf)) (p .digits) (whole-longest p) ∙ by-fraction (p .fraction)
   where
     by-fraction : Fraction frac → (eqb (getD (frac ++ (ex ++ suf)) 0 0) 46 || startsE (frac ++ (ex ++ suf)) 0) ≡ true
     by-fraction (no-fraction e) = rw (e, e-start ex suf (p .exponent) (p .some e), or-true)

@@ -16,7 +16,7 @@ use Rattle.body.specs.declared.Quoted.the-variants as quoted
 use Rattle.escape.specs.declared.Allowed.{Allowed}
 use Rattle.escape.specs.declared.Allowed.the-variants.{Text, Bytes, C}
 use Rattle.string.specs.Decode.{Decode, refusal, stringDecoded, bufferAfter}
-use Rattle.input.specs.Checks.{textFault}
+use Rattle.text_check.specs.Checks.{textFault}
 use Rattle.literal.specs.declared.KindFound.{KindFound}
 use Rattle.literal.specs.declared.KindFound.the-variants as found
 

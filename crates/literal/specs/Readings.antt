@@ -12,12 +12,12 @@ use Rattle.escape.specs.declared.Allowed.{Allowed}
 use Rattle.escape.specs.declared.Allowed.the-variants.{Text, Bytes, C}
 use Rattle.integer.specs.Integer.{integerRead}
 use Rattle.float.specs.Float.{floatRead}
-use Rattle.single_quote.specs.declared.Quote.{Quote}
-use Rattle.single_quote.specs.declared.Quote.the-variants.{Char, Byte}
+use Rattle.character_quote.specs.declared.Quote.{Quote}
+use Rattle.character_quote.specs.declared.Quote.the-variants.{Char, Byte}
 use Rattle.character.specs.Single.{charRead, byteRead}
 use Rattle.string.specs.String.{stringRead}
-use Rattle.entries.specs.Entries.{startsFloat}
-use Rattle.input.specs.Checks.{textFault}
+use Rattle.dispatch.specs.Entries.{startsFloat}
+use Rattle.text_check.specs.Checks.{textFault}
 
 -- a number: float or integer, by what stands after its leading digits
 unfoldable pub numberRead : List ℕ → Outcome

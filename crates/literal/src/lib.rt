@@ -1,13 +1,13 @@
 // The calls that a user makes, of any code and any bytes. A refusal is the first of 42, 43, 44, litrs's own, 45 or 48.
 // The last clause of each user's call's contract says that the text at exit is what it was at entry.
 use body::Quoted;
+use character_quote::Quote;
 use err::Checked;
 use err::ParseErrorKind;
 use err::Reading;
 use err::Span;
 use escape::Allowed;
 use integer_value::IntegerValue;
-use single_quote::Quote;
 use string::Decoded;
 use types::FloatFound;
 use types::FloatType;
@@ -52,12 +52,14 @@ pub fn float_from_suffix(name: &[u8]) -> u8
     ty.code()
 }
 
+// What entry 4 or 6 reads.
 fn quote_of(entry: u64) -> Quote
     ensures { λ r. ⌜ r ≡ quoteIn entry ⌝ }
 {
     if entry == 4 { Quote::Char } else { Quote::Byte }
 }
 
+// What entry 5, 7 or 8 reads.
 fn kind_of(entry: u64) -> Allowed
     ensures { λ r. ⌜ r ≡ stringKindIn entry ⌝ }
 {
@@ -73,7 +75,7 @@ fn entry(code: u64, text: &[u8]) -> Reading
     requires { ⌜ (code ≤ 8) × (length (now text) ≤ 65536) ⌝ }
     ensures { λ r. ⌜ outcomeOf r ≡ entryRead code (now (text .entry)) ⌝ }
 {
-    let e = entries::chosen(code, text);
+    let e = dispatch::chosen(code, text);
     match e {
         1 => boolean::parse(text),
         2 => integer::parse(text),
@@ -92,7 +94,7 @@ pub fn read(code: u64, text: &[u8]) -> Reading
     if 8 < code {
         return err::perr_nowhere(ParseErrorKind::BadCode);
     }
-    let checked = input::check_text(text);
+    let checked = text_check::check_text(text);
     let Checked::Bad(kind) = checked else {
         return entry(code, text);
     };
@@ -118,8 +120,8 @@ pub fn value(code: u64, text: &[u8]) -> IntegerValue
     let IntegerFound::Type(ty) = found else {
         return IntegerValue::Refused(ParseErrorKind::BadCode, Span::Nowhere);
     };
-    let most = ty.largest();
-    let Largest::Value(largest) = most else {
+    let limit = ty.largest();
+    let Largest::Value(largest) = limit else {
         return IntegerValue::Refused(ParseErrorKind::BadCode, Span::Nowhere);
     };
     let reading = read(2, text);
@@ -135,6 +137,7 @@ pub enum KindFound {
     Nothing,
 }
 
+// The kind of string that a code stands for, if any.
 fn kind_from_code(code: u64) -> KindFound
     ensures { λ r. ⌜ r ≡ kindCoded code ⌝ }
 {

@@ -12,7 +12,7 @@ abbrev pub kindIn : Outcome → ℕ
 kindIn (refused n p) = 0
 kindIn (accepted k e vs) = k
 
--- and the start of its suffix, likewise
+-- the start of a reading's suffix; 0 of a refused one
 abbrev pub suffixIn : Outcome → ℕ
 suffixIn (refused n p) = 0
 suffixIn (accepted k e vs) = e

@@ -23,9 +23,9 @@ e-inside s at t =
     ⊎-elim (λ e. byte-inside s at 101 (eqb-true _ _ e) (omega arith)) (λ e. byte-inside s at 69 (eqb-true _ _ e) (omega arith))
     (either (eqb (getD s at 0) 101) (eqb (getD s at 0) 69) t)
 
-pub e-behind : (s : List ℕ) (at : ℕ) → startsE (drop at s) 0 ≡ startsE s at
+pub e-after : (s : List ℕ) (at : ℕ) → startsE (drop at s) 0 ≡ startsE s at
 unfolding startsE
-e-behind s at = rw (getD-drop, add-zero)
+e-after s at = rw (getD-drop, add-zero)
 
 -- ---- plain decimal digits, without `_`
 

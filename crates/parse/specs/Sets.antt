@@ -1,4 +1,4 @@
--- Sets of bytes that are told by class. They take the place of litrs's digit closures and character tests.
+-- Sets of bytes, by class. They take the place of litrs's digit closures and character tests.
 -- Assumes nothing.
 use Prim.Native.Nat.{ℕ}
 use mathlib.Core.Bool.{Bool, cond, _||_}

@@ -376,6 +376,7 @@ pub fn blanks_len(s: &[u8]) -> usize
     i
 }
 
+// Whether a byte is dropped after a backslash and a line feed.
 fn is_blank(b: u8) -> bool
     ensures { λ r. ⌜ r ≡ blank b ⌝ }
 {
@@ -393,6 +394,7 @@ pub enum HexDigit {
     NotHex,
 }
 
+// litrs's `hex_digit_value`.
 pub fn hex_digit_value(digit: u8) -> HexDigit
     ensures { λ r. ⌜ r ≡ hexDigitOf digit ⌝ }
 {
@@ -404,6 +406,7 @@ pub fn hex_digit_value(digit: u8) -> HexDigit
     }
 }
 
+// Whether a byte is a decimal digit.
 pub fn is_decimal(b: u8) -> bool
     ensures { λ r. ⌜ r ≡ decDigit b ⌝ }
 {

@@ -12,7 +12,7 @@ use Rattle.scan.specs.Run.{run}
 use Rattle.scan.specs.Sets.{only}
 use Rattle.scan.proofs.Runs as runs
 use Rattle.escape.specs.declared.Allowed.{Allowed}
-use Rattle.plain_run.proofs.Blocks as blocks
+use Rattle.body_plain.proofs.Blocks as blocks
 use Rattle.raw.specs.Scan.{passes, flags, rawRun}
 
 -- a flag is 1 where its test is true
@@ -107,5 +107,5 @@ module _ (k : Allowed) (h m : ℕ) (s : List ℕ) where
     scan-here g = omega (arith, rest i, blocks.block-stop (only 1) all i n r block g)
 
     -- or goes on after it
-    pub scan-behind : n ≤ r → i + rawRun k h m (drop i s) ≡ i + n + rawRun k h m (drop (i + n) s)
-    scan-behind g = omega (arith, rest i, rest (i + n), blocks.block-past (only 1) all i n r block g)
+    pub scan-after : n ≤ r → i + rawRun k h m (drop i s) ≡ i + n + rawRun k h m (drop (i + n) s)
+    scan-after g = omega (arith, rest i, rest (i + n), blocks.block-past (only 1) all i n r block g)

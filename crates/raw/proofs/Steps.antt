@@ -17,7 +17,7 @@ use Rattle.scan.proofs.Cases.{cond-in, cond-eq}
 use Rattle.scan.proofs.Runs.{run-le}
 use Rattle.escape.specs.declared.Allowed.{Allowed}
 use Rattle.escape.specs.declared.Unescaped.the-variants.{Byte}
-use Rattle.plain_run.specs.Plain.{plainByte}
+use Rattle.body_plain.specs.Plain.{plainByte}
 use Rattle.body.specs.Step.{close, refuse, Next, piece, stop, plainOf}
 use Rattle.body.specs.Pieces.{Char}
 use Rattle.body.proofs.Steps.{is-plain}

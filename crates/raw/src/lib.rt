@@ -16,12 +16,12 @@ ghost use lib.Dec.{leb};
 ghost use lib.ListN.{length, getD, drop};
 ghost use Rattle.scan.specs.Run.{run};
 ghost use Rattle.scan.specs.Sets.{only};
-ghost use Rattle.body.specs.Code.{Stopped};
+ghost use Rattle.body.specs.Packed.{Stopped};
 ghost use Rattle.body.specs.Step.{stop, endOf, nextOf};
 ghost use Rattle.body.specs.Body.{Measures};
 ghost use Rattle.body.specs.Quote.{quoteOf};
 ghost use Rattle.raw.specs.Raw.{rawStepOf, rawBody, rawOf};
-ghost use Rattle.raw.specs.Scan.{rawPlain, markOf, passes, flags, rawRun};
+ghost use Rattle.raw.specs.Scan.{rawPlain, closingByte, passes, flags, rawRun};
 
 // What stands at i of a raw body with h hashes.
 fn raw_step(s: &[u8], i: usize, h: usize, k: Allowed) -> Step
@@ -73,8 +73,8 @@ fn raw_ending_at(s: &[u8], at: usize, h: usize, k: Allowed) -> Ending
 }
 
 // What stands h bytes after a quote that closes.
-fn closing_mark(h: usize) -> u8
-    ensures { λ r. ⌜ r ≡ markOf h ⌝ }
+fn closing_byte(h: usize) -> u8
+    ensures { λ r. ⌜ r ≡ closingByte h ⌝ }
 {
     if h == 0 { b'"' } else { b'#' }
 }
@@ -128,8 +128,8 @@ fn scan_from(s: &[u8], from: usize, h: usize, mark: u8, k: Allowed) -> usize
     i
 }
 
-// Where a byte at j stands in the way of a scan over 64 bytes, or 64. Both tests of a quote are made in any case: with no byte read under a
-// branch the compiler makes vectors of the loop.
+// j where the byte at j ends a scan of a block of 64 bytes, else 64. Both tests of a quote are made, and no byte is read
+// under a branch, so that LLVM vectorises the loop.
 fn raw_place(b: u8, far: u8, j: u8, mark: u8, k: Allowed) -> u8
     ensures { λ r. ⌜ r ≡ cond (passes k mark b far) 64 j ⌝ }
 {
@@ -178,7 +178,7 @@ fn measure_raw(s: &[u8], h: usize, k: Allowed) -> Measured
     requires { ⌜ h ≤ 255 ⌝ }
     ensures { λ r. ⌜ Measures (rawBody k h (now (s .entry))) r ⌝ }
 {
-    let mark = closing_mark(h);
+    let mark = closing_byte(h);
     let mut i = 0;
     loop {
         let e = raw_end(s, i, h, mark, k);

@@ -11,7 +11,7 @@ use lib.Dec.{eqb}
 use lib.ListN.{length, getD, take, drop, drop-of-length-le, length-drop, take-append-drop}
 use borrow.Author.Tests.{ne-eqb}
 use lib.Seq.{drop-cons, drop-drop}
-use Rattle.scan.specs.Run.{run, outs, All, Stops}
+use Rattle.scan.specs.Run.{run, countNot, All, Stops}
 use Rattle.scan.proofs.Cases.{cond-in, clash}
 
 -- the run from i on, where the byte at i passes, is one more than the run from the next
@@ -49,7 +49,7 @@ run-every p s i e h = run-each p s i (omega arith)
 pub run-short : (p : ℕ → Bool) (s : List ℕ) (i : ℕ) → i < length s → p (getD s i 0) ≡ false → eqb (run p s) (length s) ≡ false
 run-short p s i h e = ne-eqb (run p s) (length s) (λ x. clash (run-every p s i x h) e)
 
--- the bytes of a run pass, and the byte behind it does not
+-- the bytes of a run pass, and the byte after it does not
 pub run-all : (p : ℕ → Bool) (s : List ℕ) → All p (take (run p s) s)
 run-all p [] = tt
 run-all p (b ∷ s) = cond-in (λ (n : ℕ). All p (take n (b ∷ s))) (p b) (λ e. (e, run-all p s)) (λ e. tt)
@@ -66,7 +66,7 @@ run-is p (x ∷ a) b h g = rw (h .0) (ap suc (run-is p a b (h .1) g))
 
 -- ---- how long a run is
 
--- a run that is as long as m goes on behind m bytes
+-- a run that is as long as m goes on after m bytes
 pub run-past : (p : ℕ → Bool) (m : ℕ) (s : List ℕ) → m ≤ run p s → run p s ≡ m + run p (drop m s)
 run-past p zero s h = omega arith
 run-past p (suc m) [] h = absurd (omega arith)
@@ -76,41 +76,41 @@ run-past p (suc m) (b ∷ s) h = by-test (p b) (run-past p m s) h
     by-test true f g = omega (arith, f (omega arith))
     by-test false f g = absurd (omega arith)
 
--- a byte that passes, behind others that do, makes it longer
+-- a byte that passes, after others that do, makes it longer
 pub run-reach : (p : ℕ → Bool) (s : List ℕ) (i : ℕ) → i < length s → i ≤ run p s → p (getD s i 0) ≡ true → i + 1 ≤ run p s
 run-reach p s i h g t = omega (arith, run-past p i s g, run-more p s i h t)
 
--- two lists whose bytes pass, one behind the other
+-- two lists whose bytes pass, one after the other
 pub all-append : (p : ℕ → Bool) (s t : List ℕ) → All p s → All p t → All p (s ++ t)
 all-append p [] t a b = b
 all-append p (x ∷ s) t a b = (a .0, all-append p s t (a .1) b)
 
--- a list is its run and what stands behind it
+-- a list is its run and what stands after it
 pub run-split : (p : ℕ → Bool) (s : List ℕ) → take (run p s) s ++ drop (run p s) s ≡ s
 run-split p s = take-append-drop (run p s) s
 
 -- ---- a block with no byte outside the set is passed at once
 
 -- a count of failures goes on by one byte
-pub outs-more : (p : ℕ → Bool) (s : List ℕ) (i n : ℕ) → i < length s → n + cond (p (getD s i 0)) 0 1 + outs p (drop (i + 1) s) ≡ n + outs p (drop i s)
+pub outs-more : (p : ℕ → Bool) (s : List ℕ) (i n : ℕ) → i < length s → n + cond (p (getD s i 0)) 0 1 + countNot p (drop (i + 1) s) ≡ n + countNot p (drop i s)
 outs-more p s i n h = rw (drop-cons s i 0, add-one) (omega arith)
 
-pub outs-end : (p : ℕ → Bool) (s : List ℕ) (i n : ℕ) → length s ≤ i → n + outs p (drop i s) ≡ n
+pub outs-end : (p : ℕ → Bool) (s : List ℕ) (i n : ℕ) → length s ≤ i → n + countNot p (drop i s) ≡ n
 outs-end p s i n h = rw (drop-of-length-le s h) (omega arith)
 
-pub clear : (p : ℕ → Bool) (m : ℕ) (s : List ℕ) → outs p (take m s) ≡ 0 → m ≤ length s → run p s ≡ m + run p (drop m s)
+pub clear : (p : ℕ → Bool) (m : ℕ) (s : List ℕ) → countNot p (take m s) ≡ 0 → m ≤ length s → run p s ≡ m + run p (drop m s)
 clear p zero s h l = omega arith
 clear p (suc m) [] h l = absurd (omega arith)
 clear p (suc m) (b ∷ s) h l = by-test (p b) (clear p m s) h
   where
-    by-test : (t : Bool) → (outs p (take m s) ≡ 0 → m ≤ length s → run p s ≡ m + run p (drop m s)) → cond t 0 1 + outs p (take m s) ≡ 0 → cond t (suc (run p s)) 0 ≡ suc m + run p (drop m s)
+    by-test : (t : Bool) → (countNot p (take m s) ≡ 0 → m ≤ length s → run p s ≡ m + run p (drop m s)) → cond t 0 1 + countNot p (take m s) ≡ 0 → cond t (suc (run p s)) 0 ≡ suc m + run p (drop m s)
     by-test true f g = omega (arith, f (omega arith) (omega arith))
     by-test false f g = absurd (omega arith)
 
-pub run-block : (p : ℕ → Bool) (s : List ℕ) (i m : ℕ) → outs p (take m (drop i s)) ≡ 0 → i + m ≤ length s → i + run p (drop i s) ≡ i + m + run p (drop (i + m) s)
+pub run-block : (p : ℕ → Bool) (s : List ℕ) (i m : ℕ) → countNot p (take m (drop i s)) ≡ 0 → i + m ≤ length s → i + run p (drop i s) ≡ i + m + run p (drop (i + m) s)
 run-block p s i m h l = rw (← drop-drop) (omega (arith, clear p m (drop i s) h (omega (arith, length-drop i s))))
 
-pub run-part : (p : ℕ → Bool) (s : List ℕ) (i e : ℕ) → outs p (take (e - i) (drop i s)) ≡ 0 → i ≤ e → e ≤ length s → i + run p (drop i s) ≡ e + run p (drop e s)
+pub run-part : (p : ℕ → Bool) (s : List ℕ) (i e : ℕ) → countNot p (take (e - i) (drop i s)) ≡ 0 → i ≤ e → e ≤ length s → i + run p (drop i s) ≡ e + run p (drop e s)
 run-part p s i e h l g =
     let q : i + (e - i) ≡ e = omega arith in
     rw q at (run-block p s i (e - i) h (omega arith))

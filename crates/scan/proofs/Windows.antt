@@ -1,4 +1,4 @@
--- Parts of a text whose bytes all pass a test: of one byte, of two parts one behind the other, and what they tell of the run at the front.
+-- Parts of a text whose bytes all pass a test: of one byte, of two parts one after the other, and what they tell of the run at the front.
 -- Assumes nothing.
 use mathlib.Core.Path.{_≡_, refl, sym, _∙_}
 use mathlib.Core.Bool.{Bool, true, false, _&&_}
@@ -46,7 +46,7 @@ module _ (p : ℕ → Bool) (s : List ℕ) where
       by-lt (run p (drop (at + a) s)) b (λ g. rw (broken at (a + b) (omega arith), whole at a h, broken (at + a) b g))
       (λ g. rw (whole at (a + b) (omega arith), whole at a h, whole (at + a) b g))
 
-  -- what was found of two bytes, and of two parts one behind the other
+  -- what was found of two bytes, and of two parts one after the other
   pub all-pair : (at : ℕ) → at + 2 ≤ length s → (p (getD s at 0) && p (getD s (at + 1) 0)) ≡ allIn p at 2 s
   all-pair at h = sym (all-halves at 1 1 ∙ rw (all-one at (omega arith), all-one (at + 1) (omega arith)))
 

@@ -11,9 +11,9 @@ run p [] = 0
 run p (b ∷ s) = cond (p b) (suc (run p s)) 0
 
 -- how many bytes of the list fail the test
-abbrev pub outs : (ℕ → Bool) → List ℕ → ℕ
-outs p [] = 0
-outs p (b ∷ s) = cond (p b) 0 1 + outs p s
+abbrev pub countNot : (ℕ → Bool) → List ℕ → ℕ
+countNot p [] = 0
+countNot p (b ∷ s) = cond (p b) 0 1 + countNot p s
 
 -- every byte passes
 abbrev pub All : (ℕ → Bool) → List ℕ → Type 0

@@ -21,6 +21,7 @@ pub enum ByteSet {
     Only(u8),
 }
 
+// The byte at an offset, or nothing past the end.
 pub fn get(s: &[u8], i: usize) -> Byte
     ensures { λ r. ⌜ r ≡ byteOf (now (s .entry)) i ⌝ }
 {
@@ -83,12 +84,12 @@ pub fn eight_ascii(s: &[u8], at: usize) -> bool
     four_ascii(s, at) & four_ascii(s, at + 4)
 }
 
-// An offset that is `most` bytes further, or the end where that is nearer.
-pub fn nearer(from: usize, most: usize, end: usize) -> usize
+// An offset `step` bytes further, clamped to the end.
+pub fn clamped_end(from: usize, step: usize, end: usize) -> usize
     requires { ⌜ from ≤ end ⌝ }
-    ensures { λ r. ⌜ r ≡ from + min most (end - from) ⌝ }
+    ensures { λ r. ⌜ r ≡ from + min step (end - from) ⌝ }
 {
-    if end - from < most { end } else { from + most }
+    if end - from < step { end } else { from + step }
 }
 
 // Whether two texts are the same bytes.
@@ -108,6 +109,7 @@ pub fn is_same(a: &[u8], b: &[u8]) -> bool
     true
 }
 
+// Whether a byte is in a set.
 fn is_in(b: u8, set: ByteSet) -> bool
     ensures { λ r. ⌜ r ≡ inSet set b ⌝ }
 {

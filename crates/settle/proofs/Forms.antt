@@ -16,11 +16,11 @@ use Rattle.grammar.specs.Meaning.{Worth}
 use Rattle.form.specs.Form.{bareForm, formOf, faultOf}
 use Rattle.numbers.specs.Numbers.{kindIn, suffixIn}
 use Rattle.literal.specs.Readings.{readAt}
-use Rattle.bare_form.proofs.Readings.{short, start}
-use Rattle.bare_form.specs.Worths.{worthOf}
-use Rattle.bare_form.proofs.Lengths.{no-len}
-use Rattle.bare_form.specs.Bare.{len, bad, bareLen, bareBy, bareFormBy, Roomy}
-use Rattle.form_bound.specs.Bound.{surelyFits}
+use Rattle.form_reading.proofs.Readings.{short, start}
+use Rattle.form_reading.specs.Worths.{worthOf}
+use Rattle.form_reading.proofs.Lengths.{no-len}
+use Rattle.form_reading.specs.Bare.{len, bad, bareLen, bareBy, bareFormBy, Roomy}
+use Rattle.form_bound.specs.Bound.{fitsByBound}
 use Rattle.form_bound.proofs.Sure.{surely}
 use Rattle.settle.specs.Settled.{FormAnswer, returned, formed, refusal, measured, measureOf, measureAt, settleAt, formBy, formAt, settleBuffer, Fits}
 
@@ -160,7 +160,7 @@ module _ (s buf : List ℕ) (o : Outcome) (is : o ≡ readAt 0 s) where
 -- ---- strings that surely fit
 
 -- neither 47 nor 48 comes
-pub surely-ready : (s : List ℕ) (have : ℕ) (found : Reading) → let o = outcomeOf found in o ≡ readAt 0 s → surelyFits s o have ≡ true → Ready s o have
+pub surely-ready : (s : List ℕ) (have : ℕ) (found : Reading) → let o = outcomeOf found in o ≡ readAt 0 s → fitsByBound s o have ≡ true → Ready s o have
 surely-ready s have found is e =
     let o = outcomeOf found in
     let f = surely s have found is e in

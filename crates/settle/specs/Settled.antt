@@ -15,8 +15,8 @@ use Rattle.buffer.specs.Buffer.{over}
 use Rattle.grammar.specs.Meaning.{Worth}
 use Rattle.form.specs.Form.{formOf, faultOf}
 use Rattle.literal.specs.Readings.{readAt}
-use Rattle.bare_form.specs.Worths.{worthOf}
-use Rattle.bare_form.specs.Bare.{BareLength, len, bad, bareBy, bareFormBy}
+use Rattle.form_reading.specs.Worths.{worthOf}
+use Rattle.form_reading.specs.Bare.{BareLength, len, bad, bareBy, bareFormBy}
 use Rattle.settle.specs.declared.Settled.{Settled}
 use Rattle.settle.specs.declared.Settled.the-variants as settled
 

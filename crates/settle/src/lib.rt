@@ -1,9 +1,9 @@
 // Settled forms: the measure of a text's form, and the form written into a lent buffer. Any bytes may be handed in.
 // The last clause of each public contract says that the text at exit is what it was at entry.
-use bare_form::Bare;
 use err::ParseErrorKind;
 use err::Reading;
 use err::Span;
+use form_reading::Bare;
 ghost use mathlib.Core.Path.{_≡_};
 ghost use lib.ListN.{length};
 ghost use Prim.Native.Nat.{ℕ};
@@ -11,7 +11,7 @@ ghost use Rattle.err.specs.Outcome.{Place};
 ghost use Rattle.err.specs.Reading.{outcomeOf};
 ghost use Rattle.buffer.specs.Buffer.{Wrote};
 ghost use Rattle.literal.specs.Readings.{readAt};
-ghost use Rattle.bare_form.specs.Bare.{bad, bareOf};
+ghost use Rattle.form_reading.specs.Bare.{bad, bareOf};
 ghost use Rattle.settle.specs.Settled.{refusal, settledOf, IsBad, measureOf, measureAt, settleAt, settleBuffer, formBy, Fits};
 
 // A form's kind and length, or why there is none.
@@ -37,7 +37,7 @@ fn measure_of(text: &[u8], found: Reading) -> Settled
     requires { ⌜ outcomeOf found ≡ readAt 0 (now text) ⌝ }
     ensures { λ r. ⌜ settledOf r ≡ measureOf (now (text .entry)) (outcomeOf found) ⌝ }
 {
-    let bare = bare_form::bare_len(text, found);
+    let bare = form_reading::bare_len(text, found);
     let Bare::Len(n) = bare else {
         return refused(bare);
     };
@@ -54,7 +54,7 @@ fn put_reading(out: &mut [u8], text: &[u8], found: Reading) -> usize
     ensures { λ r. ⌜ Wrote (formBy (now (text .entry)) (outcomeOf found)) r (now (out .entry)) (now (out .exit)) ⌝ }
 {
     let start = numbers::suffix_start(found);
-    let at = bare_form::put_bare(out, text, found);
+    let at = form_reading::put_bare(out, text, found);
     at + buffer::put_bytes(&mut out[at..], &text[start..])
 }
 
@@ -73,7 +73,7 @@ fn settle_found(text: &[u8], out: &mut [u8], found: Reading) -> Settled
     ensures { λ r. ⌜ settledOf r ≡ settleAt (now (text .entry)) (length (now (out .entry))) ⌝ }
     ensures { λ r. ⌜ now (out .exit) ≡ settleBuffer (now (text .entry)) (now (out .entry)) ⌝ }
 {
-    if !form_bound::surely_fits(text, found, out.len()) {
+    if !form_bound::fits_by_bound(text, found, out.len()) {
         let measure = measure_of(text, found);
         let Settled::Formed(_, n) = measure else {
             return measure;

@@ -24,34 +24,34 @@ use Rattle.raw.specs.Raw.{rawBody}
 use Rattle.raw.proofs.Strings.{raw-is}
 use Rattle.raw.proofs.Contents.{raw-exact}
 use Rattle.string.specs.String.{stringKind, offsetOf, openingBy, openingAt, ofQuote, readBy, stringRead, hashesAt, valueBy, stringValue}
-use Rattle.string.specs.Parts.{letterOf, hashes, QuotedParts, RawParts, Tiled, as-quoted, as-raw}
+use Rattle.string.specs.Parts.{kindLetter, hashes, QuotedParts, RawParts, Tiled, as-quoted, as-raw}
 use Rattle.string.specs.declared.Opening.{Opening}
 use Rattle.string.specs.declared.Opening.the-variants as opening
 use Rattle.string.proofs.Starts.{read-some}
 
 -- ---- how it opens
 
-opens-quoted : (k : Allowed) (r : List ℕ) → openingAt k (letterOf k ++ (34 ∷ r)) ≡ opening.Quoted
+opens-quoted : (k : Allowed) (r : List ℕ) → openingAt k (kindLetter k ++ (34 ∷ r)) ≡ opening.Quoted
 unfolding openingBy
 opens-quoted Text r = refl
 opens-quoted Bytes r = refl
 opens-quoted C r = refl
 
-opens-raw : (k : Allowed) (r : List ℕ) → openingAt k (letterOf k ++ (114 ∷ r)) ≡ opening.Raw
+opens-raw : (k : Allowed) (r : List ℕ) → openingAt k (kindLetter k ++ (114 ∷ r)) ≡ opening.Raw
 unfolding openingBy
 opens-raw Text r = refl
 opens-raw Bytes r = refl
 opens-raw C r = refl
 
-opened-length : (k : Allowed) (x : ℕ) (r : List ℕ) → length (letterOf k ++ (x ∷ r)) ≡ offsetOf k + length r
+opened-length : (k : Allowed) (x : ℕ) (r : List ℕ) → length (kindLetter k ++ (x ∷ r)) ≡ offsetOf k + length r
 opened-length Text x r = omega arith
 opened-length Bytes x r = omega arith
 opened-length C x r = omega arith
 
-behind-opening : (k : Allowed) (x : ℕ) (r : List ℕ) → drop (offsetOf k) (letterOf k ++ (x ∷ r)) ≡ r
-behind-opening Text x r = refl
-behind-opening Bytes x r = refl
-behind-opening C x r = refl
+after-opening : (k : Allowed) (x : ℕ) (r : List ℕ) → drop (offsetOf k) (kindLetter k ++ (x ∷ r)) ≡ r
+after-opening Text x r = refl
+after-opening Bytes x r = refl
+after-opening C x r = refl
 
 -- ---- hashes
 
@@ -68,8 +68,8 @@ hashes-run : (h : ℕ) (r : List ℕ) → run (only 35) (hashes h ++ (34 ∷ r))
 unfolding only
 hashes-run h r = run-is (only 35) (hashes h) (34 ∷ r) (hashes-all h) refl ∙ hashes-length h
 
-behind-hashes : (h : ℕ) (x : ℕ) (r : List ℕ) → drop (h + 1) (hashes h ++ (x ∷ r)) ≡ r
-behind-hashes h x r = rw hashes-length at (drop-append-add (hashes h) (x ∷ r) 1)
+after-hashes : (h : ℕ) (x : ℕ) (r : List ℕ) → drop (h + 1) (hashes h ++ (x ∷ r)) ≡ r
+after-hashes h x r = rw hashes-length at (drop-append-add (hashes h) (x ∷ r) 1)
 
 -- ---- what is read
 
@@ -78,7 +78,7 @@ module _ (k : Allowed) (s v : List ℕ) (e : ℕ) (vs : Values) where
   Complete = (stringRead k s ≡ accepted (stringKind k) e vs) × (stringValue k s ≡ v)
 
   -- a text that opens is read by its opening
-  read-by : (x : ℕ) (r : List ℕ) (o : Opening) → s ≡ letterOf k ++ (x ∷ r) → openingAt k s ≡ o
+  read-by : (x : ℕ) (r : List ℕ) (o : Opening) → s ≡ kindLetter k ++ (x ∷ r) → openingAt k s ≡ o
       → readBy k o s ≡ accepted (stringKind k) e vs → valueBy k o s ≡ v → Complete
   unfolding stringValue
   read-by x r o is opens read val =
@@ -103,7 +103,7 @@ module _ (k : Allowed) (s v : List ℕ) (e : ℕ) (vs : Values) where
   quoted-complete content suf al parts end values =
       let o : ℕ = offsetOf k in
       let r : List ℕ = content ++ (34 ∷ suf) in
-      let d-is : drop o s ≡ r = rw (parts .text) (behind-opening k 34 r) in
+      let d-is : drop o s ≡ r = rw (parts .text) (after-opening k 34 r) in
       let al' : Aligned r = subst Aligned d-is (aligned-rest (take o s) (drop o s) (rw take-append-drop al)) in
       let more : o + length content + 1 ≡ o + (length content + 1) = omega arith in
       let rest : drop (o + length content + 1) s ≡ suf = rw (more, ← drop-drop, d-is) (drop-append-add content (34 ∷ suf) 1) in
@@ -118,10 +118,10 @@ module _ (k : Allowed) (s v : List ℕ) (e : ℕ) (vs : Values) where
       let o : ℕ = offsetOf k in
       let d : List ℕ = v ++ (34 ∷ (hashes h ++ suf)) in
       let r : List ℕ = hashes h ++ (34 ∷ d) in
-      let d-is : drop o s ≡ r = rw (parts .text) (behind-opening k 114 r) in
+      let d-is : drop o s ≡ r = rw (parts .text) (after-opening k 114 r) in
       let count : h ≡ hashesAt s o = rw d-is (sym (hashes-run h d)) in
       let one : o + h + 1 ≡ o + (h + 1) = omega arith in
-      let body-is : drop (o + h + 1) s ≡ d = rw (one, ← drop-drop, d-is) (behind-hashes h 34 d) in
+      let body-is : drop (o + h + 1) s ≡ d = rw (one, ← drop-drop, d-is) (after-hashes h 34 d) in
       let quote : getD s (o + h) 0 ≡ 34 = sym (getD-drop o s h 0) ∙ rw d-is (getD-at (hashes h) 34 d 0 h (hashes-length h)) in
       let size : length s ≡ o + length r = ap length (parts .text) ∙ opened-length k 114 r in
       let size-r : length r ≡ h + suc (length d) = length-append (hashes h) (34 ∷ d) ∙ rw hashes-length in

@@ -24,7 +24,7 @@ use Rattle.raw.proofs.Bodies.{raw-value}
 use Rattle.raw.proofs.Contents.{raw-exact}
 use Rattle.string.specs.String.{stringKind, offsetOf, openingBy, openingAt, startFault, ofQuote, readBy, stringRead}
 use Rattle.string.specs.String.{hashesAt, valueBy, stringValue}
-use Rattle.string.specs.Parts.{letterOf, hashes, Tiled, as-quoted, as-raw}
+use Rattle.string.specs.Parts.{kindLetter, hashes, Tiled, as-quoted, as-raw}
 use Rattle.string.specs.declared.Opening.{Opening}
 use Rattle.string.specs.declared.Opening.the-variants as opening
 use Rattle.string.proofs.Literals.{opening-inside}
@@ -46,20 +46,20 @@ opens-by (b ∷ s) =
     cond-eq P b 34 (λ e. rw e) λ e. cond-eq P b 114 (λ f. rw f) (λ f. tt)
 
 -- and after a letter
-opens-behind : (x : ℕ) (s : List ℕ) (o : Opening) → Opens [] 1 s o → Opens (x ∷ []) 2 (x ∷ s) o
-opens-behind x s opening.Quoted e = ap (λ (l : List ℕ). x ∷ l) e
-opens-behind x s opening.Raw e = ap (λ (l : List ℕ). x ∷ l) e
-opens-behind x s opening.Neither e = tt
+opens-after : (x : ℕ) (s : List ℕ) (o : Opening) → Opens [] 1 s o → Opens (x ∷ []) 2 (x ∷ s) o
+opens-after x s opening.Quoted e = ap (λ (l : List ℕ). x ∷ l) e
+opens-after x s opening.Raw e = ap (λ (l : List ℕ). x ∷ l) e
+opens-after x s opening.Neither e = tt
 
-opens : (k : Allowed) (s : List ℕ) → Opens (letterOf k) (offsetOf k) s (openingAt k s)
+opens : (k : Allowed) (s : List ℕ) → Opens (kindLetter k) (offsetOf k) s (openingAt k s)
 unfolding openingBy
 opens Text s = opens-by s
 opens Bytes [] = tt
 opens Bytes (b ∷ s) =
-    cond-eq (Opens (98 ∷ []) 2 (b ∷ s)) b 98 (λ e. rw e (opens-behind 98 s (openingBy (getD s 0 0)) (opens-by s))) (λ e. tt)
+    cond-eq (Opens (98 ∷ []) 2 (b ∷ s)) b 98 (λ e. rw e (opens-after 98 s (openingBy (getD s 0 0)) (opens-by s))) (λ e. tt)
 opens C [] = tt
 opens C (b ∷ s) =
-    cond-eq (Opens (99 ∷ []) 2 (b ∷ s)) b 99 (λ e. rw e (opens-behind 99 s (openingBy (getD s 0 0)) (opens-by s))) (λ e. tt)
+    cond-eq (Opens (99 ∷ []) 2 (b ∷ s)) b 99 (λ e. rw e (opens-after 99 s (openingBy (getD s 0 0)) (opens-by s))) (λ e. tt)
 
 -- ---- what is read after the body
 
@@ -99,7 +99,7 @@ module _ (k : Allowed) (s : List ℕ) (kind e : ℕ) (vs : Values) where
 
   -- ---- quoted
 
-  quoted-sound : s ≡ letterOf k ++ (34 ∷ drop (offsetOf k) s) → offsetOf k ≤ length s
+  quoted-sound : s ≡ kindLetter k ++ (34 ∷ drop (offsetOf k) s) → offsetOf k ≤ length s
       → ofQuote k (stringOf k (offsetOf k) s) ≡ accepted kind e vs → Sound (valueBy k opening.Quoted s)
   unfolding stringOf
   quoted-sound is inside g =
@@ -115,13 +115,13 @@ module _ (k : Allowed) (s : List ℕ) (kind e : ℕ) (vs : Values) where
       let same : drop (o + b .at + 1) s ≡ suf = rw more (sym (drop-drop (suc (b .at)) o s)) in (
         t .is-kind,
         as-quoted (take (b .at) d) suf
-            (record { text = is ∙ ap (λ (l : List ℕ). letterOf k ++ (34 ∷ l)) split; pieces = c .0; suffix = ap suffixFault (sym same) ∙ t .suffix })
+            (record { text = is ∙ ap (λ (l : List ℕ). kindLetter k ++ (34 ∷ l)) split; pieces = c .0; suffix = ap suffixFault (sym same) ∙ t .suffix })
             (omega (arith, t .start, length-drop o s, length-drop (suc (b .at)) d)) (t .values),
       )
 
   -- ---- raw
 
-  raw-ended : (h : ℕ) → h ≡ hashesAt s (offsetOf k) → s ≡ letterOf k ++ (114 ∷ drop (offsetOf k) s) → offsetOf k + h + 1 ≤ length s
+  raw-ended : (h : ℕ) → h ≡ hashesAt s (offsetOf k) → s ≡ kindLetter k ++ (114 ∷ drop (offsetOf k) s) → offsetOf k + h + 1 ≤ length s
       → h ≤ 255 → getD s (offsetOf k + h) 0 ≡ 34 → let b = rawBody k h (drop (offsetOf k + h + 1) s) in
       ofQuote k (afterEnd s (raw h) (offsetOf k + h + 1 + b .at) (length (b .value)) (b .end)) ≡ accepted kind e vs → Sound (b .value)
   raw-ended h count is inside few quote g =
@@ -137,10 +137,10 @@ module _ (k : Allowed) (s : List ℕ) (kind e : ℕ) (vs : Values) where
       let count-v : length v ≡ b .at = rw slice (length-take-le (b .at) d (omega arith)) in
       let rest : List ℕ = drop (suc (b .at)) d in
       let suf : List ℕ = drop h rest in
-      let behind : rest ≡ hashes h ++ suf = hashes-first h rest (c .closes .1) in
+      let past : rest ≡ hashes h ++ suf = hashes-first h rest (c .closes .1) in
       let split : d ≡ take (b .at) d ++ (34 ∷ rest) = rw (c .closes .0) at (split-at d (b .at) 0 room) in
       let whole : d ≡ v ++ (34 ∷ (hashes h ++ suf)) =
-      split ∙ ap (λ (l : List ℕ). l ++ (34 ∷ rest)) (sym slice) ∙ ap (λ (l : List ℕ). v ++ (34 ∷ l)) behind in
+      split ∙ ap (λ (l : List ℕ). l ++ (34 ∷ rest)) (sym slice) ∙ ap (λ (l : List ℕ). v ++ (34 ∷ l)) past in
       let one : suc (o + h) ≡ o + h + 1 = omega arith in
       let at-quote : drop h (drop o s) ≡ 34 ∷ d = rw (drop-drop, drop-cons s (o + h) 0 (omega arith), quote, one) in
       let front : drop o s ≡ hashes h ++ (34 ∷ d) = hashes-first h (drop o s) (omega arith) ∙ ap (λ (l : List ℕ). hashes h ++ l) at-quote in
@@ -152,7 +152,7 @@ module _ (k : Allowed) (s : List ℕ) (kind e : ℕ) (vs : Values) where
         t .is-kind,
         as-raw suf h
             (record {
-              text = is ∙ ap (λ (l : List ℕ). letterOf k ++ (114 ∷ l)) (front ∙ ap (λ (l : List ℕ). hashes h ++ (34 ∷ l)) whole);
+              text = is ∙ ap (λ (l : List ℕ). kindLetter k ++ (114 ∷ l)) (front ∙ ap (λ (l : List ℕ). hashes h ++ (34 ∷ l)) whole);
               few = few;
               bytes = subst (λ (x : List ℕ). RawContent k h x (length v)) whole (rw count-v c);
               suffix = ap suffixFault (sym same) ∙ t .suffix;
@@ -160,7 +160,7 @@ module _ (k : Allowed) (s : List ℕ) (kind e : ℕ) (vs : Values) where
             (omega (arith, t .start, c .closes .1, run-le (only 35) rest)) (t .values),
       )
 
-  raw-sound : s ≡ letterOf k ++ (114 ∷ drop (offsetOf k) s) → offsetOf k ≤ length s
+  raw-sound : s ≡ kindLetter k ++ (114 ∷ drop (offsetOf k) s) → offsetOf k ≤ length s
       → ofQuote k (rawOf k (offsetOf k) s) ≡ accepted kind e vs → Sound (valueBy k opening.Raw s)
   unfolding rawOf rawAt rawFrom
   raw-sound is inside =
@@ -178,7 +178,7 @@ module _ (k : Allowed) (s : List ℕ) (kind e : ℕ) (vs : Values) where
   no-start Bytes g = let z : _≡_ {A = ℕ} 0 1 = cc in omega arith
   no-start C g = let z : _≡_ {A = ℕ} 0 1 = cc in omega arith
 
-  by-opening : (o : Opening) → Opens (letterOf k) (offsetOf k) s o → ((o ≡ opening.Neither → ⊥) → offsetOf k ≤ length s)
+  by-opening : (o : Opening) → Opens (kindLetter k) (offsetOf k) s o → ((o ≡ opening.Neither → ⊥) → offsetOf k ≤ length s)
       → readBy k o s ≡ accepted kind e vs → Sound (valueBy k o s)
   by-opening opening.Quoted is l g = quoted-sound is (l (λ x. let z : _≡_ {A = ℕ} 0 1 = cc in omega arith)) g
   by-opening opening.Raw is l g = raw-sound is (l (λ x. let z : _≡_ {A = ℕ} 0 1 = cc in omega arith)) g

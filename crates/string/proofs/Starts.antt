@@ -22,8 +22,8 @@ read-some k [] h = absurd (h refl)
 read-some k (b ∷ s) h = refl
 
 -- an opening that was told is not `Neither`
-pub told-quoted : (k : Allowed) (s : List ℕ) (o : Opening) → o ≡ openingAt k s → o ≡ opening.Quoted → openingAt k s ≡ opening.Neither → ⊥
-told-quoted k s o a b h = let z : _≡_ {A = ℕ} 0 1 = cc in omega arith
+pub known-quoted : (k : Allowed) (s : List ℕ) (o : Opening) → o ≡ openingAt k s → o ≡ opening.Quoted → openingAt k s ≡ opening.Neither → ⊥
+known-quoted k s o a b h = let z : _≡_ {A = ℕ} 0 1 = cc in omega arith
 
-pub told-raw : (k : Allowed) (s : List ℕ) (o : Opening) → o ≡ openingAt k s → o ≡ opening.Raw → openingAt k s ≡ opening.Neither → ⊥
-told-raw k s o a b h = let z : _≡_ {A = ℕ} 0 1 = cc in omega arith
+pub known-raw : (k : Allowed) (s : List ℕ) (o : Opening) → o ≡ openingAt k s → o ≡ opening.Raw → openingAt k s ≡ opening.Neither → ⊥
+known-raw k s o a b h = let z : _≡_ {A = ℕ} 0 1 = cc in omega arith

@@ -15,7 +15,7 @@ use Rattle.escape.specs.declared.Allowed.the-variants.{Text, C}
 use Rattle.body_value.proofs.Contents.{content-no-zero, cut-at-ascii, content-utf8}
 use Rattle.raw.proofs.Contents.{raw-no-zero}
 use Rattle.string.specs.String.{stringRead, stringValue}
-use Rattle.string.specs.Parts.{letterOf, hashes, Tiled, as-quoted, as-raw}
+use Rattle.string.specs.Parts.{kindLetter, hashes, Tiled, as-quoted, as-raw}
 use Rattle.string.proofs.Literals.{QuotedLit, RawLit, read-is}
 use Rattle.string.proofs.Sound.{sound}
 
@@ -31,8 +31,8 @@ hashed zero y suf l = ([], y, refl, l)
 hashed (suc h) y suf l = let a = hashed h 35 suf (omega arith) in (y ∷ a .0, a .1, ap (λ (x : List ℕ). y ∷ x) (a .2), a .3)
 
 -- more bytes before it
-behind : (q r suf : List ℕ) → Ascii suf r → Ascii suf (q ++ r)
-behind q r suf (p, y, e, l) = (q ++ p, y, rw e (rw append-assoc), l)
+past : (q r suf : List ℕ) → Ascii suf r → Ascii suf (q ++ r)
+past q r suf (p, y, e, l) = (q ++ p, y, rw e (rw append-assoc), l)
 
 -- the suffix starts at e, and the byte before it is that one
 ends-at : (s suf : List ℕ) (e : ℕ) → Ascii suf s → e + length suf ≡ length s → (1 ≤ e) × (e ≤ length s) × (getD s (e - 1) 0 < 128)
@@ -43,10 +43,10 @@ ends-at s suf e (p, y, is, l) h =
 -- a quote or a hash stands before the suffix
 pub ends-ascii : (k : Allowed) (s v : List ℕ) {e : ℕ} {vs : Values} → Tiled k s v e vs → (1 ≤ e) × (e ≤ length s) × (getD s (e - 1) 0 < 128)
 ends-ascii k s v {e} (as-quoted content suf parts end values) =
-    ends-at s suf e (rw (parts .text) (behind (letterOf k) _ suf (behind (34 ∷ content) (34 ∷ suf) suf ([], 34, refl, omega arith)))) end
+    ends-at s suf e (rw (parts .text) (past (kindLetter k) _ suf (past (34 ∷ content) (34 ∷ suf) suf ([], 34, refl, omega arith)))) end
 ends-ascii k s v {e} (as-raw suf h parts end values) =
     ends-at s suf e (rw (parts .text)
-    (behind (letterOf k) _ suf (behind (114 ∷ hashes h) _ suf (behind (34 ∷ v) _ suf (hashed h 34 suf (omega arith)))))) end
+    (past (kindLetter k) _ suf (past (114 ∷ hashes h) _ suf (past (34 ∷ v) _ suf (hashed h 34 suf (omega arith)))))) end
 
 -- ---- the value
 

@@ -1,4 +1,4 @@
--- Where the value of a literal stands in its text, told from the reading alone. For contracts between functions, no sentence of a document;
+-- Where the value of a literal stands in its text, found from the reading alone. For contracts between functions, no sentence of a document;
 -- law `inner-stands` joins it to `stringValue`.
 -- Assumes nothing.
 use Prim.Native.Nat.{ℕ, _+_}

@@ -13,10 +13,10 @@ use Rattle.raw.specs.Content.{RawContent}
 
 -- the kind's letter: none, `b`, `c`
 -- 98 is `b`, 99 is `c`
-abbrev pub letterOf : Allowed → List ℕ
-letterOf Text = []
-letterOf Bytes = 98 ∷ []
-letterOf C = 99 ∷ []
+abbrev pub kindLetter : Allowed → List ℕ
+kindLetter Text = []
+kindLetter Bytes = 98 ∷ []
+kindLetter C = 99 ∷ []
 
 -- h hashes
 -- 35 is `#`
@@ -27,7 +27,7 @@ hashes (suc h) = 35 ∷ hashes h
 -- letter, quote, what stands between the quotes and its value v, quote, a good suffix
 -- 34 is `"`
 pub record QuotedParts (k : Allowed) (s content v suf : List ℕ) : Type 0 where
-  pub text : s ≡ letterOf k ++ (34 ∷ (content ++ (34 ∷ suf)))
+  pub text : s ≡ kindLetter k ++ (34 ∷ (content ++ (34 ∷ suf)))
   pub pieces : Content k content v
   pub suffix : suffixFault suf ≡ 0
 
@@ -35,7 +35,7 @@ pub record QuotedParts (k : Allowed) (s content v suf : List ℕ) : Type 0 where
 -- hashes, a good suffix
 -- 114 is `r`, 34 is `"`
 pub record RawParts (k : Allowed) (s v suf : List ℕ) (h : ℕ) : Type 0 where
-  pub text : s ≡ letterOf k ++ (114 ∷ (hashes h ++ (34 ∷ (v ++ (34 ∷ (hashes h ++ suf))))))
+  pub text : s ≡ kindLetter k ++ (114 ∷ (hashes h ++ (34 ∷ (v ++ (34 ∷ (hashes h ++ suf))))))
   pub few : h ≤ 255
   pub bytes : RawContent k h (v ++ (34 ∷ (hashes h ++ suf))) (length v)
   pub suffix : suffixFault suf ≡ 0

@@ -1,4 +1,4 @@
-// String, byte string and C string literals, told apart by what they allow (`escape::Allowed`): their readings, and their decoded bytes.
+// String, byte string and C string literals, which differ in what they allow (`escape::Allowed`): their readings, and their decoded bytes.
 use body::Quoted;
 use err::Hashes;
 use err::ParseErrorKind;
@@ -83,6 +83,7 @@ fn opening_of(text: &[u8], k: Allowed) -> Opening
     }
 }
 
+// How a literal goes on after the kind's letter.
 fn quote_or_r(b: u8) -> Opening
     ensures { λ r. ⌜ r ≡ openingBy b ⌝ }
 {
@@ -121,6 +122,7 @@ fn refusal(lit: Quoted) -> Reading
     }
 }
 
+// litrs's `StringLit::parse`, `ByteStringLit::parse` and `CStringLit::parse`.
 pub fn parse(text: &[u8], k: Allowed) -> Reading
     requires { ⌜ length (now text) < 4294967296 ⌝ }
     ensures { λ r. ⌜ outcomeOf r ≡ stringRead k (now (text .entry)) ⌝ }
@@ -168,7 +170,7 @@ pub fn inner_range(k: Allowed, lit: StringLit) -> Inner
 }
 
 // The value of a literal that was read from the text, written to the front of out.
-fn put_value(out: &mut [u8], text: &[u8], k: Allowed, lit: StringLit) -> usize
+fn put_decoded(out: &mut [u8], text: &[u8], k: Allowed, lit: StringLit) -> usize
     requires { ⌜ ((length (now text) < 4294967296) × (parsedOf k (Quoted.Lit lit) ≡ stringRead k (now text))) × (lit .«value_len» ≤ length (now out)) ⌝ }
     ensures { λ r. ⌜ Wrote (stringValue k (now (text .entry))) r (now (out .entry)) (now (out .exit)) ⌝ }
 {
@@ -188,5 +190,5 @@ pub fn decode(text: &[u8], k: Allowed, lit: StringLit, out: &mut [u8]) -> Decode
     if out.len() < lit.value_len {
         return Decoded::Refused(ParseErrorKind::OutTooSmall, Span::Nowhere);
     }
-    Decoded::Written(put_value(out, text, k, lit))
+    Decoded::Written(put_decoded(out, text, k, lit))
 }

@@ -1,4 +1,4 @@
--- The bytes of a suffix by comparisons: the first, and those behind it.
+-- The bytes of a suffix by comparisons: the first, and those after it.
 -- Assumes nothing.
 use mathlib.Core.Path.{_≡_}
 use mathlib.Core.Bool.{true, false, not, _||_, or-true, or-false}

@@ -1,4 +1,4 @@
--- In a UTF-8 text no byte 10xxxxxx stands behind an ASCII byte.
+-- In a UTF-8 text no byte 10xxxxxx stands after an ASCII byte.
 -- Assumes nothing.
 use mathlib.Core.Path.{_≡_, refl, subst}
 use mathlib.Core.Bool.{false}
@@ -9,16 +9,16 @@ use lib.ListN.{length, getD}
 use borrow.Author.Tests.{ne-eqb}
 use Rattle.scan.proofs.Cases.{by-lt}
 use Rattle.utf8.specs.Utf8.{Scalars, encode, encodeAll, Utf8}
-use Rattle.utf8.specs.Cut.{tail, Aligned}
+use Rattle.utf8.specs.Cut.{continuation, Aligned}
 use Rattle.utf8.proofs.Laws.{is-row1, encode-high}
 use Rattle.utf8.proofs.Text.{utf8-first}
 
--- a byte above 127 may stand before any byte, and an ASCII byte before one that is no tail byte
+-- a byte above 127 may stand before any byte, and an ASCII byte before one that is no continuation byte
 high : (a : ℕ) (r : List ℕ) → 0x80 ≤ a → Aligned r → Aligned (a ∷ r)
 high a [] h al = tt
 high a (b ∷ r) h al = ((λ g. absurd (omega arith)), al)
 
-low : (a : ℕ) (r : List ℕ) → tail (getD r 0 0) ≡ false → Aligned r → Aligned (a ∷ r)
+low : (a : ℕ) (r : List ℕ) → continuation (getD r 0 0) ≡ false → Aligned r → Aligned (a ∷ r)
 low a [] h al = tt
 low a (b ∷ r) h al = ((λ g. h), al)
 
@@ -27,7 +27,7 @@ highs [] r f al = al
 highs (a ∷ l) r f al = high a (l ++ r) (f 0 (omega arith)) (highs l r (λ i h. f (suc i) (omega arith)) al)
 
 all : (ss : List ℕ) → Scalars ss → Aligned (encodeAll ss)
-unfolding tail
+unfolding continuation
 all [] t = tt
 all (s ∷ ss) t =
     let r : List ℕ = encodeAll ss in
@@ -47,6 +47,6 @@ aligned-rest (a ∷ []) [] al = tt
 aligned-rest (a ∷ []) (b ∷ r) al = al .1
 aligned-rest (a ∷ b ∷ p) r al = aligned-rest (b ∷ p) r (al .1)
 
--- the byte behind an ASCII byte
-pub aligned-at : (p : List ℕ) (a b : ℕ) (r : List ℕ) → Aligned (p ++ (a ∷ b ∷ r)) → a < 0x80 → tail b ≡ false
+-- the byte after an ASCII byte
+pub aligned-at : (p : List ℕ) (a b : ℕ) (r : List ℕ) → Aligned (p ++ (a ∷ b ∷ r)) → a < 0x80 → continuation b ≡ false
 aligned-at p a b r al h = aligned-rest p (a ∷ b ∷ r) al .0 h

@@ -14,7 +14,7 @@ use borrow.Author.Tests.{eq-eqb, ne-eqb}
 use Rattle.scan.proofs.Cases.{cond-in, cond-lt, cond-eq}
 use Rattle.utf8.specs.Utf8.{Scalar, encode, Utf8}
 use Rattle.utf8.specs.Decode.{lengthFrom, decode2, decode3, decode4, rest2, rest3, rest4, decodeBy, decode}
-use Rattle.utf8.specs.Cut.{tail}
+use Rattle.utf8.specs.Cut.{continuation}
 use Rattle.utf8.specs.declared.Decoded.{Decoded}
 use Rattle.utf8.specs.declared.Decoded.the-variants.{Char, Bad}
 use Rattle.utf8.proofs.Laws.{encode-length, Found, decode-found}
@@ -45,7 +45,7 @@ short-rest n a r k h =
     four (b ∷ c ∷ []) h = refl
     four (b ∷ c ∷ d ∷ r) h = absurd (omega arith)
 
--- a byte behind the end is read as 0, which continues no character
+-- a byte after the end is read as 0, which continues no character
 padded2 : (a : ℕ) (r : List ℕ) → rest2 a r ≡ decode2 a (getD r 0 0)
 unfolding rest2 decode2
 padded2 a [] = refl
@@ -98,9 +98,9 @@ module _ (t : List ℕ) (at n : ℕ) (within : at < length t) (is : n ≡ length
   unfolding decodeBy
   decode-none e1 e2 e3 e4 = by-length ∙ simp (ne-eqb n 1 e1, ne-eqb n 2 e2, ne-eqb n 3 e3, ne-eqb n 4 e4)
 
--- a byte that needs another behind it, and has no tail byte there
-pub decode-alone : (t : List ℕ) (at : ℕ) → at < length t → 0x80 ≤ getD t at 0 → tail (getD t (at + 1) 0) ≡ false → decode (drop at t) ≡ Bad
-unfolding decodeBy lengthFrom tail decode2 decode3 decode4
+-- a byte that needs another after it, and has no continuation byte there
+pub decode-alone : (t : List ℕ) (at : ℕ) → at < length t → 0x80 ≤ getD t at 0 → continuation (getD t (at + 1) 0) ≡ false → decode (drop at t) ≡ Bad
+unfolding decodeBy lengthFrom continuation decode2 decode3 decode4
 decode-alone t at h g e =
     let a = getD t at 0 in
     let r : List ℕ = drop (at + 1) t in

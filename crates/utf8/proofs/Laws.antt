@@ -227,7 +227,7 @@ whole4 s h =
     sum : (a b c s x y z : ℕ) → c * 64 + z ≡ s → b * 64 + y ≡ c → a * 64 + x ≡ b → a * 262144 + x * 4096 + y * 64 + z ≡ s
     sum a b c s x y z e1 e2 e3 = omega arith
 
--- decoding behind an encoding gives the character number back, whatever follows
+-- decoding after an encoding gives the character number back, whatever follows
 pub decode-encode : (s : ℕ) (r : List ℕ) → Scalar s → decode (encode s ++ r) ≡ Char s (length (encode s))
 unfolding decode decodeBy lengthFrom
 decode-encode s r y =

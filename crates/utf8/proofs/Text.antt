@@ -101,7 +101,7 @@ utf8-append p q u v = subst (λ (l : List ℕ). Utf8 (l ++ q)) (u .2) (go (u .0)
     go [] t = v
     go (s ∷ ss) t = rw append-assoc (utf8-char s (encodeAll ss ++ q) (t .0) (go ss (t .1)))
 
--- what stands behind a UTF-8 text in a UTF-8 text is one too
+-- what stands after a UTF-8 text in a UTF-8 text is one too
 pub utf8-suffix : (p q : List ℕ) → Utf8 p → Utf8 (p ++ q) → Utf8 q
 utf8-suffix p q u v = go (u .0) (u .1) (subst (λ (l : List ℕ). Utf8 (l ++ q)) (sym (u .2)) v)
   where
@@ -115,8 +115,8 @@ pub utf8-ascii : (b : ℕ) (r : List ℕ) → b < 0x80 → Utf8 r → Utf8 (b �
 utf8-ascii b r h u =
     subst (λ (l : List ℕ). Utf8 (l ++ r)) (is-row1 b h) (utf8-char b r (inl (omega arith)) u)
 
-pub utf8-behind-ascii : (b : ℕ) (r : List ℕ) → b < 0x80 → Utf8 (b ∷ r) → Utf8 r
-utf8-behind-ascii b r h u =
+pub utf8-after-ascii : (b : ℕ) (r : List ℕ) → b < 0x80 → Utf8 (b ∷ r) → Utf8 r
+utf8-after-ascii b r h u =
     utf8-rest b r (inl (omega arith)) (subst (λ (l : List ℕ). Utf8 (l ++ r)) (sym (is-row1 b h)) u)
 
 -- such bytes at the front change nothing
@@ -126,7 +126,7 @@ utf8-front [] (suc n) h = (λ u. u, λ u. u)
 utf8-front (b ∷ t) (suc n) h =
     let r = utf8-front t n (λ k l. h (suc k) (omega arith)) in
     let a = h 0 (omega arith) in
-    (λ u. utf8-ascii b t a (r .0 u), λ u. r .1 (utf8-behind-ascii b t a u))
+    (λ u. utf8-ascii b t a (r .0 u), λ u. r .1 (utf8-after-ascii b t a u))
 
 -- ---- boundaries
 
@@ -197,13 +197,13 @@ boundary-at text u =
 pub ascii-boundary : (text : List ℕ) → Utf8 text → (n : ℕ) → n < length text → getD text n 0 < 0x80 → Boundary text n × Utf8 (drop (suc n) text)
 ascii-boundary text u n h a =
     let b : Boundary text n = boundary-at text u n (omega arith) (λ e. omega arith) in
-    (b, utf8-behind-ascii (getD text n 0) (drop (suc n) text) a (rw (drop-cons text n 0 h) at (boundary-drop text n b)))
+    (b, utf8-after-ascii (getD text n 0) (drop (suc n) text) a (rw (drop-cons text n 0 h) at (boundary-drop text n b)))
 
 -- in a UTF-8 text an offset from which the rest is UTF-8 is a boundary
 pub boundary-of-rest : (text : List ℕ) → Utf8 text → (n : ℕ) → n ≤ length text → Utf8 (drop n text) → Boundary text n
 boundary-of-rest text u n h v = boundary-at text u n h (rest-first text n v)
 
--- so the offset behind a byte below 128 is one
+-- so the offset after a byte below 128 is one
 pub ascii-next : (text : List ℕ) → Utf8 text → (n : ℕ) → n < length text → getD text n 0 < 0x80 → Boundary text (suc n)
 ascii-next text u n h a = boundary-of-rest text u (suc n) (omega arith) (ascii-boundary text u n h a .1)
 

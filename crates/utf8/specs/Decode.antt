@@ -53,13 +53,13 @@ unfoldable pub rest2 : ℕ → List ℕ → Decoded
 rest2 a [] = Bad
 rest2 a (b ∷ r) = decode2 a b
 
--- the same of three bytes
+-- a character of three bytes from its first byte and the text after it; none where that text is too short
 unfoldable pub rest3 : ℕ → List ℕ → Decoded
 rest3 a [] = Bad
 rest3 a (b ∷ []) = Bad
 rest3 a (b ∷ c ∷ r) = decode3 a b c
 
--- the same of four bytes
+-- a character of four bytes from its first byte and the text after it; none where that text is too short
 unfoldable pub rest4 : ℕ → List ℕ → Decoded
 rest4 a [] = Bad
 rest4 a (b ∷ []) = Bad

@@ -24,7 +24,7 @@ encode s =
     (cond (ltb s 0x10000) ((0b11100000 + s / 4096) ∷ (0b10000000 + s / 64 % 64) ∷ (0b10000000 + s % 64) ∷ [])
     ((0b11110000 + s / 262144) ∷ (0b10000000 + s / 4096 % 64) ∷ (0b10000000 + s / 64 % 64) ∷ (0b10000000 + s % 64) ∷ [])))
 
--- the encodings of some characters, one behind the other
+-- the encodings of some characters, one after the other
 abbrev pub encodeAll : List ℕ → List ℕ
 encodeAll [] = []
 encodeAll (s ∷ ss) = encode s ++ encodeAll ss
@@ -34,14 +34,14 @@ abbrev pub Scalars : List ℕ → Type 0
 Scalars [] = Unit {0}
 Scalars (s ∷ ss) = Scalar s × Scalars ss
 
--- A text is UTF-8: it is the encodings of some characters, one behind the other.
+-- A text is UTF-8: it is the encodings of some characters, one after the other.
 abbrev pub Utf8 : List ℕ → Type 0
 Utf8 text = (ss : List ℕ) × Scalars ss × (encodeAll ss ≡ text)
 
--- The offset n is a character boundary of the text: the text is two UTF-8 texts, one behind the other, and the first has n bytes.
+-- The offset n is a character boundary of the text: the text is two UTF-8 texts, one after the other, and the first has n bytes.
 abbrev pub Boundary : List ℕ → ℕ → Type 0
 Boundary text n = (p : List ℕ) × (q : List ℕ) × Utf8 p × Utf8 q × (p ++ q ≡ text) × (length p ≡ n)
 
--- The last character of the text has n bytes: the text is a UTF-8 text with one character behind it, whose encoding has n bytes.
+-- The last character of the text has n bytes: the text is a UTF-8 text with one character after it, whose encoding has n bytes.
 abbrev pub LastChar : List ℕ → ℕ → Type 0
 LastChar text n = (p : List ℕ) × (s : ℕ) × Utf8 p × Scalar s × (p ++ encode s ≡ text) × (length (encode s) ≡ n)

@@ -5,7 +5,7 @@ ghost use lib.ListN.{length, drop};
 ghost use Rattle.buffer.specs.Buffer.{Wrote};
 ghost use Rattle.utf8.specs.Utf8.{Scalar, encode};
 ghost use Rattle.utf8.specs.Decode.{lengthFrom, decode2, decode3, decode4, decode};
-ghost use Rattle.utf8.specs.Cut.{tail, isBoundary, lastLen};
+ghost use Rattle.utf8.specs.Cut.{continuation, isBoundary, lastLen};
 
 // The character at a place of a text, with its length in bytes, or none.
 pub enum Decoded {
@@ -32,8 +32,8 @@ pub fn char_len(first: u8) -> usize
 }
 
 // Whether the byte continues a character: 10xxxxxx.
-pub fn is_tail(b: u8) -> bool
-    ensures { λ r. ⌜ r ≡ tail b ⌝ }
+pub fn is_continuation(b: u8) -> bool
+    ensures { λ r. ⌜ r ≡ continuation b ⌝ }
 {
     b / 64 == 2
 }
@@ -115,7 +115,7 @@ pub fn decode_char(text: &[u8], at: usize) -> Decoded
     }
     if n == 1 {
         return Decoded::Char {
-            scalar: wide(first),
+            scalar: widen(first),
             len: 1,
         };
     }
@@ -131,7 +131,8 @@ pub fn decode_char(text: &[u8], at: usize) -> Decoded
     Decoded::Bad
 }
 
-fn wide(b: u8) -> u32
+// A byte as a u32.
+fn widen(b: u8) -> u32
     ensures { λ r. ⌜ r ≡ b ⌝ }
 {
     b as u32
@@ -188,7 +189,7 @@ pub fn is_boundary(text: &[u8], at: usize) -> bool
     if text.len() <= at {
         return text.len() == at;
     }
-    !is_tail(text[at])
+    !is_continuation(text[at])
 }
 
 // How many bytes the last character has: those from the last byte that is not 10xxxxxx to the end.
@@ -198,7 +199,7 @@ pub fn last_len(text: &[u8]) -> usize
     let mut start = text.len();
     while 0 < start {
         start -= 1;
-        if !is_tail(text[start]) {
+        if !is_continuation(text[start]) {
             return text.len() - start;
         }
     }

@@ -4,7 +4,7 @@ use mathlib.Core.Path.{_≡_, _∙_}
 use Prim.Native.Nat.{_-_}
 use native.Mathlib.Omega.{arith}
 use lib.ListN.{length, take, length-take}
-use Rattle.lines.proofs.Laws as lines
+use Rattle.batch_line.proofs.Laws as lines
 use Rattle.batch.specs.Record.{numberAt, headLine, headBuffer}
 use borrow.Author.Needs.{needs}
 use Rattle.batch.proofs.print_record.Statement.{statement}

@@ -12,8 +12,8 @@ use Rattle.utf8.proofs.Cuts.{last-le}
 use Rattle.escape.specs.Escape.{bytesOf, Valid}
 use Rattle.escape.specs.declared.Allowed.{Allowed}
 use Rattle.escape.specs.declared.Unescaped.{Unescaped}
-use Rattle.escape_code.specs.Code.{codedLen, codedValue}
-use Rattle.plain_run.specs.Plain.{plainByte}
+use Rattle.escape_packed.specs.Packed.{packedLen, packedValue}
+use Rattle.body_plain.specs.Plain.{plainByte}
 use Rattle.body.specs.Step.{piece, stepOf}
 use Rattle.body.proofs.Within.{step-in}
 use Rattle.body.proofs.Bodies as bodies
@@ -52,13 +52,13 @@ abbrev turn : tie.Else2 Inv-loop μ-loop → tie.At-loop Inv-loop μ-loop
 turn c = c .before .before .before .before
 
 abbrev size : tie.Else2 Inv-loop μ-loop → ℕ
-size c = codedLen (c .before .code-at .result)
+size c = packedLen (c .before .packed-at .result)
 
 abbrev value : tie.Else2 Inv-loop μ-loop → Unescaped
-value c = codedValue (c .before .code-at .result)
+value c = packedValue (c .before .packed-at .result)
 
 stepped : (c : tie.Else2 Inv-loop μ-loop) → stepOf (kind (turn c)) (drop (turn c .loop .i) (text (turn c))) ≡ piece (size c) (value c)
-stepped c = codes.code-step _ _ _ (c .before .code-at .ensures) (c .if2 .left)
+stepped c = codes.code-step _ _ _ (c .before .packed-at .ensures) (c .if2 .left)
 
 room : (c : tie.Else2 Inv-loop μ-loop)
     → (0 < size c) × (turn c .loop .i + size c ≤ length (text (turn c))) × (length (bytesOf (value c)) ≤ size c) × Valid (value c)
@@ -74,7 +74,7 @@ longer : (c : tie.After-value-len Inv-loop μ-loop) →
     turn d .loop .n + c .value-len .result ≡ length (so-far (turn d) ++ bytesOf (value d))
 longer c =
     let d = c .before .before in
-    let e : c .value-len .result ≡ length (bytesOf (value d)) = rw (c .before .code-value .ensures) at (c .value-len .ensures) in
+    let e : c .value-len .result ≡ length (bytesOf (value d)) = rw (c .before .packed-value .ensures) at (c .value-len .ensures) in
     omega (arith, e, length-append (so-far (turn d)) (bytesOf (value d)), turn d .loop .inv .2)
 
 -- ---- a run of bytes that stand for themselves
@@ -113,13 +113,13 @@ loop-holds c =
 byte-at-requires : tie.Need-byte-at-requires Inv-loop μ-loop
 byte-at-requires c κs = search needs
 
-code-at-requires : tie.Need-code-at-requires Inv-loop μ-loop
-code-at-requires c κs =
+packed-at-requires : tie.Need-packed-at-requires Inv-loop μ-loop
+packed-at-requires c κs =
     let a = c .before .before in
     (a .loop .inv .1 .within, (entry a .pre, rw (a .before .before .last-len .ensures)))
 
-code-value-requires : tie.Need-code-value-requires Inv-loop μ-loop
-code-value-requires c κs = search needs
+packed-value-requires : tie.Need-packed-value-requires Inv-loop μ-loop
+packed-value-requires c κs = search needs
 
 value-len-requires : tie.Need-value-len-requires Inv-loop μ-loop
 value-len-requires c κs = search needs
@@ -127,21 +127,21 @@ value-len-requires c κs = search needs
 add-n : tie.Need-add-n Inv-loop μ-loop
 add-n c = let d = c .before .before in omega (arith, longer c, short (turn d) (onward d))
 
-code-len-requires : tie.Need-code-len-requires Inv-loop μ-loop
-code-len-requires c κs = search needs
+packed-len-requires : tie.Need-packed-len-requires Inv-loop μ-loop
+packed-len-requires c κs = search needs
 
 add-i : tie.Need-add-i Inv-loop μ-loop
-add-i c = let d = c .before .before .before in omega (arith, c .code-len .ensures, short (turn d) (onward d))
+add-i c = let d = c .before .before .before in omega (arith, c .packed-len .ensures, short (turn d) (onward d))
 
 loop-less : tie.Need-loop-less Inv-loop μ-loop
-loop-less c = omega (arith, c .code-len .ensures, room (c .before .before .before))
+loop-less c = omega (arith, c .packed-len .ensures, room (c .before .before .before))
 
 loop-again : tie.Need-loop-again Inv-loop μ-loop
 loop-again c =
     let d = c .before .before .before in
     let a = turn d in (
       so-far a ++ bytesOf (value d),
-      subst (λ (m : ℕ). bodies.Passed (stepOf (kind a)) (text a) (a .loop .i + m) (so-far a ++ bytesOf (value d))) (sym (c .code-len .ensures)) (onward d),
+      subst (λ (m : ℕ). bodies.Passed (stepOf (kind a)) (text a) (a .loop .i + m) (so-far a ++ bytesOf (value d))) (sym (c .packed-len .ensures)) (onward d),
       longer (c .before),
     )
 
@@ -188,11 +188,11 @@ measure-spec =
     front-end-requires
     loop-holds
     byte-at-requires
-    code-at-requires
-    code-value-requires
+    packed-at-requires
+    packed-value-requires
     value-len-requires
     add-n
-    code-len-requires
+    packed-len-requires
     add-i
     loop-less
     loop-again

@@ -6,7 +6,7 @@ use Prim.Native.Nat.{_≤_}
 use native.Mathlib.Omega.{arith}
 use lib.ListN.{length, drop, length-drop}
 use Rattle.scan.proofs.Parts.{part-to-end}
-use Rattle.utf8.specs.Cut.{tail}
+use Rattle.utf8.specs.Cut.{continuation}
 use Rattle.utf8.proofs.Cuts.{last-drop}
 use Rattle.body.proofs.Steps as steps
 use Rattle.body.proofs.step_at.Statement.{statement}
@@ -34,13 +34,13 @@ part-backslash-end : tie.Need-part-backslash-end
 part-backslash-end c = search needs
 
 backslash-requires : tie.Need-backslash-requires
-unfolding tail
+unfolding continuation
 backslash-requires c κs =
     let o = c .before in
     let i = o .before .before in
     let a = i .before .before .args in
     let l : 1 ≤ length (drop (a .at) (a .s .now)) = omega (arith, i .if1 .left, length-drop (a .at) (a .s .now)) in
-    rw (part-to-end, last-drop _ _ (i .if1 .left) (ap tail (o .if2 .left)) .0) (l, i .before .before .pre)
+    rw (part-to-end, last-drop _ _ (i .if1 .left) (ap continuation (o .if2 .left)) .0) (l, i .before .before .pre)
 
 returns-3 : tie.Need-returns-3
 returns-3 c =

@@ -14,10 +14,10 @@ use Rattle.utf8.proofs.Cuts.{last-le}
 use Rattle.escape.specs.Escape.{bytesOf, Valid}
 use Rattle.escape.specs.declared.Allowed.{Allowed}
 use Rattle.escape.specs.declared.Unescaped.{Unescaped}
-use Rattle.escape_code.specs.Code.{codedLen, codedValue}
-use Rattle.plain_run.specs.Plain.{plainByte}
+use Rattle.escape_packed.specs.Packed.{packedLen, packedValue}
+use Rattle.body_plain.specs.Plain.{plainByte}
 use Rattle.body.specs.Body.{body}
-use Rattle.body.specs.Code.{Stopped}
+use Rattle.body.specs.Packed.{Stopped}
 use Rattle.body.specs.Step.{piece, stepOf}
 use Rattle.body.proofs.Within.{step-in}
 use Rattle.body.proofs.Bodies as bodies
@@ -68,7 +68,7 @@ module _ (a : tie.At-loop Inv-loop μ-loop) (v : List ℕ) {j : ℕ} (p : bodies
 
   module _ (n : ℕ) (ys : List ℕ) (w : Wrote v n (take (length (a .loop .out) - a .loop .at) (drop (a .loop .at) (a .loop .out))) ys) where
     further : Wrote (so-far a ++ v) (a .loop .at + n) (lent a) (putMid (a .loop .at) (length (a .loop .out) - a .loop .at) (a .loop .out) ys)
-    further = laws.behind (a .loop .inv .2) w fits
+    further = laws.past (a .loop .inv .2) w fits
 
     counts : a .loop .at + n ≤ length (lent a)
     counts = omega (arith, further .count, length-append (so-far a) v, fits)
@@ -82,13 +82,13 @@ abbrev turn : tie.Else2 Inv-loop μ-loop → tie.At-loop Inv-loop μ-loop
 turn c = c .before .before .before .before
 
 abbrev size : tie.Else2 Inv-loop μ-loop → ℕ
-size c = codedLen (c .before .code-at .result)
+size c = packedLen (c .before .packed-at .result)
 
 abbrev value : tie.Else2 Inv-loop μ-loop → Unescaped
-value c = codedValue (c .before .code-at .result)
+value c = packedValue (c .before .packed-at .result)
 
 stepped : (c : tie.Else2 Inv-loop μ-loop) → stepOf (kind (turn c)) (drop (turn c .loop .i) (text (turn c))) ≡ piece (size c) (value c)
-stepped c = codes.code-step _ _ _ (c .before .code-at .ensures) (c .if2 .left)
+stepped c = codes.code-step _ _ _ (c .before .packed-at .ensures) (c .if2 .left)
 
 room : (c : tie.Else2 Inv-loop μ-loop)
     → (0 < size c) × (turn c .loop .i + size c ≤ length (text (turn c))) × (length (bytesOf (value c)) ≤ size c) × Valid (value c)
@@ -105,7 +105,7 @@ read p = p .before .before .before
 put : (p : tie.After-put-value Inv-loop μ-loop) →
     let a = turn (read p) in
     Wrote (bytesOf (value (read p))) (p .put-value .result) (take (length (a .loop .out) - a .loop .at) (drop (a .loop .at) (a .loop .out))) (p .put-value .last .0)
-put p = rw (p .before .code-value .ensures) at (p .put-value .ensures)
+put p = rw (p .before .packed-value .ensures) at (p .put-value .ensures)
 
 -- ---- a run
 
@@ -136,8 +136,8 @@ loop-holds c = ([], bodies.start _ _, laws.nothing _)
 byte-at-requires : tie.Need-byte-at-requires Inv-loop μ-loop
 byte-at-requires c κs = search needs
 
-code-at-requires : tie.Need-code-at-requires Inv-loop μ-loop
-code-at-requires c κs = let a = c .before .before in (a .loop .inv .1 .within, (entry a .pre .0, rw (a .before .last-len .ensures)))
+packed-at-requires : tie.Need-packed-at-requires Inv-loop μ-loop
+packed-at-requires c κs = let a = c .before .before in (a .loop .inv .1 .within, (entry a .pre .0, rw (a .before .last-len .ensures)))
 
 same-length : tie.Need-same-length Inv-loop μ-loop
 same-length c = let a = c .before .before .before .before in laws.wrote-length (a .loop .inv .2) (part a)
@@ -147,7 +147,7 @@ returns c =
     let b = c .before in
     let t = b .before in
     let a = t .before .before in
-    ended a (codes.code-stops _ (text a) _ (byte-inside (text a) _ 92 (slash t) (omega arith)) (slash t) (sym (b .code-at .ensures) ∙ c .if2 .taken))
+    ended a (codes.code-stops _ (text a) _ (byte-inside (text a) _ 92 (slash t) (omega arith)) (slash t) (sym (b .packed-at .ensures) ∙ c .if2 .taken))
 
 sub-put-value : tie.Need-sub-put-value Inv-loop μ-loop
 sub-put-value c = written (turn c)
@@ -158,14 +158,14 @@ part-put-value-start c = written (turn c)
 part-put-value-end : tie.Need-part-put-value-end Inv-loop μ-loop
 part-put-value-end c = search needs
 
-code-value-requires : tie.Need-code-value-requires Inv-loop μ-loop
-code-value-requires c κs = search needs
+packed-value-requires : tie.Need-packed-value-requires Inv-loop μ-loop
+packed-value-requires c κs = search needs
 
 put-value-requires : tie.Need-put-value-requires Inv-loop μ-loop
 put-value-requires c κs =
     let d = c .before .before in
     let a = turn d in
-    rw (c .code-value .ensures) (room d .3, laws.room _ (a .loop .inv .2) (fits a (bytesOf (value d)) (onward d)))
+    rw (c .packed-value .ensures) (room d .3, laws.room _ (a .loop .inv .2) (fits a (bytesOf (value d)) (onward d)))
 
 add-at : tie.Need-add-at Inv-loop μ-loop
 add-at c =
@@ -173,18 +173,18 @@ add-at c =
     let d = read p in
     omega (arith, counts (turn d) (bytesOf (value d)) (onward d) _ _ (put p), entry (turn d) .good)
 
-code-len-requires : tie.Need-code-len-requires Inv-loop μ-loop
-code-len-requires c κs = search needs
+packed-len-requires : tie.Need-packed-len-requires Inv-loop μ-loop
+packed-len-requires c κs = search needs
 
 add-i : tie.Need-add-i Inv-loop μ-loop
 add-i c =
     let d = read (c .before .before .before) in
-    omega (arith, room d .1, c .code-len .ensures, entry (turn d) .pre .0)
+    omega (arith, room d .1, c .packed-len .ensures, entry (turn d) .pre .0)
 
 loop-less : tie.Need-loop-less Inv-loop μ-loop
 loop-less c =
     let d = read (c .before .before .before) in
-    omega (arith, room d .0, room d .1, c .code-len .ensures)
+    omega (arith, room d .0, room d .1, c .packed-len .ensures)
 
 loop-again : tie.Need-loop-again Inv-loop μ-loop
 loop-again c =
@@ -192,7 +192,7 @@ loop-again c =
     let d = read p in
     let a = turn d in (
       so-far a ++ bytesOf (value d),
-      subst (λ (n : ℕ). bodies.Passed (stepOf (kind a)) (text a) (a .loop .i + n) (so-far a ++ bytesOf (value d))) (sym (c .code-len .ensures)) (onward d),
+      subst (λ (n : ℕ). bodies.Passed (stepOf (kind a)) (text a) (a .loop .i + n) (so-far a ++ bytesOf (value d))) (sym (c .packed-len .ensures)) (onward d),
       further a (bytesOf (value d)) (onward d) _ _ (put p),
     )
 
@@ -263,16 +263,16 @@ write-value-spec =
     sub-end
     loop-holds
     byte-at-requires
-    code-at-requires
+    packed-at-requires
     same-length
     returns
     sub-put-value
     part-put-value-start
     part-put-value-end
-    code-value-requires
+    packed-value-requires
     put-value-requires
     add-at
-    code-len-requires
+    packed-len-requires
     add-i
     loop-less
     loop-again

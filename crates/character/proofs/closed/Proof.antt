@@ -11,7 +11,7 @@ use Rattle.err.specs.Outcome.{refused, none}
 use Rattle.scan.specs.Run.{run}
 use Rattle.scan.specs.Sets.{except}
 use Rattle.scan.proofs.Parts.{part-to-end}
-use Rattle.single_quote.specs.Quote.{unterminated, overlong}
+use Rattle.character_quote.specs.Quote.{unterminated, overlong}
 use Rattle.character.specs.Single.{closedAt}
 use Rattle.character.proofs.Within.{quote-there}
 use borrow.Author.Needs.{needs}

@@ -7,7 +7,7 @@ use lib.ListN.{length, take, drop}
 use Rattle.scan.proofs.Parts.{part-to-end}
 use Rattle.escape.specs.declared.Allowed.{Allowed}
 use Rattle.escape.specs.Escape.{escapedOf, escapeOf}
-use Rattle.single_quote.specs.Quote.{allowedIn}
+use Rattle.character_quote.specs.Quote.{allowedIn}
 use Rattle.character.specs.Single.{FaultEnds, escapedBy, escapedAt}
 use Rattle.character.proofs.Within.{escape-span}
 use borrow.Author.Needs.{needs}
@@ -53,10 +53,10 @@ enum-told c = search needs
 
 refused-escape-requires : tie.Need-refused-escape-requires
 refused-escape-requires c κs = let b = c .before .before in
-    let told = ap escapedOf (c .enum-told .given .1) in
+    let known = ap escapedOf (c .enum-told .given .1) in
     let a = b .before .before .before .before .args in
-    subst (FaultEnds (18446744073709551615 - a .at)) (sym told)
-    (escape-span _ _ _ (b .before .before .before .before .pre) 18446744073709551615 _ _ (sym told ∙ by-escape b) (omega arith))
+    subst (FaultEnds (18446744073709551615 - a .at)) (sym known)
+    (escape-span _ _ _ (b .before .before .before .before .pre) 18446744073709551615 _ _ (sym known ∙ by-escape b) (omega arith))
 
 returns : tie.Need-returns
 returns c = c .refused-escape .ensures ∙ sym (escaped-is (c .before .before .before))

@@ -3,7 +3,7 @@
 use mathlib.Core.Path.{_≡_, sym, ap, subst, _∙_}
 use mathlib.Core.Bool.{cond}
 use borrow.Author.Tests.{not-true, not-false}
-use Rattle.single_quote.specs.Quote.{startFault}
+use Rattle.character_quote.specs.Quote.{startFault}
 use Rattle.character.specs.Single.{singleOf, IsRefused, singleAt, readBy}
 use Rattle.character.proofs.Start.{read-none, read-some}
 use Rattle.character.proofs.Values.{value-fits}

@@ -5,8 +5,8 @@ use Prim.Native.Nat.{_+_, _≤_}
 use native.Mathlib.Omega.{arith}
 use lib.ListN.{length}
 use borrow.Author.Tests.{lt-ltb, le-ltb}
-use Rattle.single_quote.specs.Content.{innerOf}
-use Rattle.single_quote.specs.declared.Inner.{Inner}
+use Rattle.character_quote.specs.Content.{innerOf}
+use Rattle.character_quote.specs.declared.Inner.{Inner}
 use Rattle.character.specs.Single.{IsFault, closedBy, singleAt}
 use Rattle.character.proofs.Within.{content-ends}
 use borrow.Author.Needs.{needs}

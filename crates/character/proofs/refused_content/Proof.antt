@@ -1,8 +1,8 @@
 -- `character::refused_content` meets its contract.
 -- Assumes nothing.
 use mathlib.Core.Path.{sym, ap, subst}
-use Rattle.single_quote.specs.Content.{innerOf}
-use Rattle.single_quote.specs.declared.Inner.{Inner}
+use Rattle.character_quote.specs.Content.{innerOf}
+use Rattle.character_quote.specs.declared.Inner.{Inner}
 use Rattle.character.specs.Single.{IsFault, closedBy}
 use borrow.Author.Needs.{needs}
 use Rattle.character.proofs.refused_content.Statement.{statement}

@@ -27,17 +27,17 @@ sub-loop c = search needs
 add-e : tie.Need-add-e Inv-loop μ-loop
 add-e c = search needs
 
-sub-marks : tie.Need-sub-marks Inv-loop μ-loop
-sub-marks c = search needs
+sub-count-not-digits : tie.Need-sub-count-not-digits Inv-loop μ-loop
+sub-count-not-digits c = search needs
 
-part-marks-start : tie.Need-part-marks-start Inv-loop μ-loop
-part-marks-start c = search needs
+part-count-not-digits-start : tie.Need-part-count-not-digits-start Inv-loop μ-loop
+part-count-not-digits-start c = search needs
 
-part-marks-end : tie.Need-part-marks-end Inv-loop μ-loop
-part-marks-end c = search needs
+part-count-not-digits-end : tie.Need-part-count-not-digits-end Inv-loop μ-loop
+part-count-not-digits-end c = search needs
 
-marks-requires : tie.Need-marks-requires Inv-loop μ-loop
-marks-requires c κs = search needs
+count-not-digits-requires : tie.Need-count-not-digits-requires Inv-loop μ-loop
+count-not-digits-requires c κs = search needs
 
 dec-end-requires : tie.Need-dec-end-requires Inv-loop μ-loop
 dec-end-requires c κs = search needs
@@ -51,7 +51,7 @@ loop-less c = search needs
 loop-again : tie.Need-loop-again Inv-loop μ-loop
 loop-again c =
     let b = c .before .before .before in
-    (search needs, sym (run-part _ _ _ _ (sym (c .before .marks .ensures) ∙ c .if1 .left) (omega arith) (omega arith)) ∙ b .before .loop .inv .1)
+    (search needs, sym (run-part _ _ _ _ (sym (c .before .count-not-digits .ensures) ∙ c .if1 .left) (omega arith) (omega arith)) ∙ b .before .loop .inv .1)
 
 dec-end-requires-2 : tie.Need-dec-end-requires-2 Inv-loop μ-loop
 dec-end-requires-2 c κs = search needs
@@ -68,10 +68,10 @@ end-dec-digits-spec =
     loop-holds
     sub-loop
     add-e
-    sub-marks
-    part-marks-start
-    part-marks-end
-    marks-requires
+    sub-count-not-digits
+    part-count-not-digits-start
+    part-count-not-digits-end
+    count-not-digits-requires
     dec-end-requires
     returns
     loop-less

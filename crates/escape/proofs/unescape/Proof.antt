@@ -2,14 +2,14 @@
 -- Assumes nothing.
 use mathlib.Core.Path.{_≡_, sym, ap, _∙_}
 use lib.ListN.{getD}
-use Rattle.escape.specs.Escape.{escapedOf, letterOf}
+use Rattle.escape.specs.Escape.{escapedOf, simpleEscapeOf}
 use Rattle.escape.proofs.Escapes as laws
 use borrow.Author.Needs.{needs}
 use Rattle.escape.proofs.unescape.Statement.{statement}
 use Rattle.escape.proofs.unescape.Tie as tie
 
-no-letter : (c : tie.Else2) → letterOf (getD (c .before .before .before .before .before .args .s .now) 1 0) ≡ 0
-no-letter c = sym (c .before .letter .ensures) ∙ c .if2 .left
+no-letter : (c : tie.Else2) → simpleEscapeOf (getD (c .before .before .before .before .before .args .s .now) 1 0) ≡ 0
+no-letter c = sym (c .before .simple-escape .ensures) ∙ c .if2 .left
 
 bad-requires : tie.Need-bad-requires
 bad-requires c κs = search needs
@@ -20,11 +20,11 @@ returns c = ap escapedOf (c .bad .ensures) ∙ laws.too-short _ _ (c .before .if
 shared-slice-read-b : tie.Need-shared-slice-read-b
 shared-slice-read-b c = search needs
 
-letter-requires : tie.Need-letter-requires
-letter-requires c κs = search needs
+simple-escape-requires : tie.Need-simple-escape-requires
+simple-escape-requires c κs = search needs
 
 returns-2 : tie.Need-returns-2
-returns-2 c = laws.one-letter _ _ (c .before .before .before .if1 .left) _ (c .before .letter .ensures) (c .if2 .taken)
+returns-2 c = laws.one-letter _ _ (c .before .before .before .if1 .left) _ (c .before .simple-escape .ensures) (c .if2 .taken)
 
 allow-nul-requires : tie.Need-allow-nul-requires
 allow-nul-requires c κs = search needs
@@ -63,7 +63,7 @@ unescape-spec =
     bad-requires
     returns
     shared-slice-read-b
-    letter-requires
+    simple-escape-requires
     returns-2
     allow-nul-requires
     returns-3

@@ -26,7 +26,7 @@ returns c =
     let b = c .before .before in
     rw (by-fraction, ← b .before .fraction-end .ensures .0, lt-ltb _ _ (b .if1 .taken), ← c .before .bad-fraction .ensures, c .if2 .taken)
 
--- behind the fraction
+-- after the fraction
 past-fraction : (c : tie.Joined1) →
     let a = c .before .before .before .args in
     afterInteger (a .text .now) (a .i) ≡ afterFraction (a .text .now) (a .i) (c .before .fraction-end .result)
@@ -51,7 +51,7 @@ returns-2 c =
     let a = b .before .before in
     rw (past-fraction (a .before), by-exponent, ← a .exponent-end .ensures .0, lt-ltb _ _ (b .before .if3 .taken), ← b .sign-end .ensures .0, ← c .before .no-digit .ensures, c .if4 .taken)
 
--- behind the exponent
+-- after the exponent
 past-exponent : (c : tie.Joined3) →
     let f = c .before .before .before in
     let a = f .before .before .args in

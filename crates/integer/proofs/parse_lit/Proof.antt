@@ -28,19 +28,19 @@ parse-impl-requires : tie.Need-parse-impl-requires
 parse-impl-requires c κs = search needs
 
 -- there is a first byte, and its test is told
-told : (c : tie.After-is-decimal) →
+known : (c : tie.After-is-decimal) →
     let s = c .before .before .before .before .before .before .args .text .now in
     (0 < length s) × (c .is-decimal .result ≡ decDigit (getD s 0 0))
-told c =
+known c =
     let b = c .before .before in
     let first = first-byte (b .before .before .before .before .args .text .now) _ (sym (b .before .before .get .ensures) ∙ b .first .given .1) in
     (first .0, c .is-decimal .ensures ∙ ap decDigit (first .1))
 
 returns-2 : tie.Need-returns-2
-returns-2 c = c .parse-impl .ensures ∙ read-digit _ (sym (told (c .before .before) .1) ∙ c .before .if1 .taken)
+returns-2 c = c .parse-impl .ensures ∙ read-digit _ (sym (known (c .before .before) .1) ∙ c .before .if1 .taken)
 
 returns-3 : tie.Need-returns-3
-returns-3 c = read-other _ (told (c .before) .0) (sym (told (c .before) .1) ∙ c .if1 .left)
+returns-3 c = read-other _ (known (c .before) .0) (sym (known (c .before) .1) ∙ c .if1 .left)
 
 pub parse-lit-spec : {M : Type 1} → statement M
 parse-lit-spec =

@@ -17,28 +17,28 @@ use Rattle.integer_value.proofs.number_within.Tie as tie
 
 -- what is read so far is at most the largest, and the whole is what the rest makes of it
 abbrev Inv-loop : tie.InvT-loop
-Inv-loop digits largest by most n₀ i₀ n i = (i ≤ length digits) × ((n ≤ largest) × (numberFrom by n (drop i digits) ≡ numberFrom by 0 digits))
+Inv-loop digits largest by quotient n₀ i₀ n i = (i ≤ length digits) × ((n ≤ largest) × (numberFrom by n (drop i digits) ≡ numberFrom by 0 digits))
 
 abbrev μ-loop : tie.MeasureT-loop
-μ-loop digits largest by most n₀ i₀ n i = length digits - i
+μ-loop digits largest by quotient n₀ i₀ n i = length digits - i
 
 value-requires : tie.Need-value-requires Inv-loop μ-loop
 value-requires c κs = search needs
 
-wide-requires : tie.Need-wide-requires Inv-loop μ-loop
-wide-requires c κs = search needs
+widen-requires : tie.Need-widen-requires Inv-loop μ-loop
+widen-requires c κs = search needs
 
-base : (c : tie.After-wide Inv-loop μ-loop) → c .wide .result ≡ baseOf (c .before .before .before .args .base)
-base c = c .wide .ensures ∙ c .before .value .ensures
+base : (c : tie.After-widen Inv-loop μ-loop) → c .widen .result ≡ baseOf (c .before .before .before .args .base)
+base c = c .widen .ensures ∙ c .before .value .ensures
 
-two : (c : tie.After-wide Inv-loop μ-loop) → 2 ≤ c .wide .result
+two : (c : tie.After-widen Inv-loop μ-loop) → 2 ≤ c .widen .result
 two c = rw (base c) (base-ends (c .before .before .before .args .base) .0)
 
-positive : (c : tie.After-wide Inv-loop μ-loop) → 0 < c .wide .result
+positive : (c : tie.After-widen Inv-loop μ-loop) → 0 < c .widen .result
 positive c = omega (arith, two c)
 
-div-most : tie.Need-div-most Inv-loop μ-loop
-div-most c = positive c
+div-quotient : tie.Need-div-quotient Inv-loop μ-loop
+div-quotient c = positive c
 
 loop-holds : tie.Need-loop-holds Inv-loop μ-loop
 loop-holds c = search needs
@@ -60,7 +60,7 @@ loop-again c =
 -- the whole number, as it is at the loop's test
 whole : (c : tie.At-loop Inv-loop μ-loop) →
     let a = c .before .before .before .before .args in
-    numberFrom (c .before .wide .result) (c .loop .n) (drop (c .loop .i) (a .digits .now)) ≡ number (baseOf (a .base)) (a .digits .now)
+    numberFrom (c .before .widen .result) (c .loop .n) (drop (c .loop .i) (a .digits .now)) ≡ number (baseOf (a .base)) (a .digits .now)
 unfolding number
 whole c = c .loop .inv .1 .1 ∙ rw (base (c .before))
 
@@ -68,7 +68,7 @@ whole c = c .loop .inv .1 .1 ∙ rw (base (c .before))
 over : (c : tie.Else1 Inv-loop μ-loop) →
     let l = c .before .before .before in
     let a = l .before .before .before .before .args in
-    a .largest < l .loop .n * l .before .wide .result + classOf (getD (a .digits .now) (l .loop .i) 0) → a .largest < number (baseOf (a .base)) (a .digits .now)
+    a .largest < l .loop .n * l .before .widen .result + classOf (getD (a .digits .now) (l .loop .i) 0) → a .largest < number (baseOf (a .base)) (a .digits .now)
 over c h =
     let l = c .before .before .before in
     rw (← whole l) (number-above _ _ _ _ _ (positive (l .before)) (c .before .before .loop-test .taken) (c .if1 .left) h)
@@ -76,13 +76,13 @@ over c h =
 class-of-requires : tie.Need-class-of-requires Inv-loop μ-loop
 class-of-requires c κs = search needs
 
-wide-requires-2 : tie.Need-wide-requires-2 Inv-loop μ-loop
-wide-requires-2 c κs = search needs
+widen-requires-2 : tie.Need-widen-requires-2 Inv-loop μ-loop
+widen-requires-2 c κs = search needs
 
-digit : (c : tie.After-wide2 Inv-loop μ-loop) →
+digit : (c : tie.After-widen2 Inv-loop μ-loop) →
     let l = c .before .before .before .before .before in
-    c .wide2 .result ≡ classOf (getD (l .before .before .before .before .args .digits .now) (l .loop .i) 0)
-digit c = c .wide2 .ensures ∙ c .before .class-of .ensures
+    c .widen2 .result ≡ classOf (getD (l .before .before .before .before .args .digits .now) (l .loop .i) 0)
+digit c = c .widen2 .ensures ∙ c .before .class-of .ensures
 
 is-within-requires : tie.Need-is-within-requires Inv-loop μ-loop
 is-within-requires c κs =
@@ -92,17 +92,17 @@ is-within-requires c κs =
 -- what the test said of a number with the digit more
 test : (c : tie.After-is-within Inv-loop μ-loop) →
     let l = c .before .before .before .before .before .before in
-    c .is-within .result ≡ leb (l .loop .n * l .before .wide .result + c .before .wide2 .result) (l .before .before .before .before .args .largest)
+    c .is-within .result ≡ leb (l .loop .n * l .before .widen .result + c .before .widen2 .result) (l .before .before .before .before .args .largest)
 test c = c .is-within .ensures
 
 fits : (c : tie.Else2 Inv-loop μ-loop) →
     let l = c .before .before .before .before .before .before .before in
-    l .loop .n * l .before .wide .result + c .before .before .wide2 .result ≤ l .before .before .before .before .args .largest
+    l .loop .n * l .before .widen .result + c .before .before .widen2 .result ≤ l .before .before .before .before .args .largest
 fits c = leb-true _ _ (sym (test (c .before)) ∙ not-false _ (c .if2 .left))
 
 exceeds : (c : tie.Then2 Inv-loop μ-loop) →
     let l = c .before .before .before .before .before .before .before in
-    l .before .before .before .before .args .largest < l .loop .n * l .before .wide .result + c .before .before .wide2 .result
+    l .before .before .before .before .args .largest < l .loop .n * l .before .widen .result + c .before .before .widen2 .result
 exceeds c = leb-false _ _ (sym (test (c .before)) ∙ not-true _ (c .if2 .taken))
 
 returns : tie.Need-returns Inv-loop μ-loop
@@ -134,15 +134,15 @@ number-within-spec =
     Inv-loop
     μ-loop
     value-requires
-    wide-requires
-    div-most
+    widen-requires
+    div-quotient
     loop-holds
     shared-slice-read-b
     add-i
     loop-less
     loop-again
     class-of-requires
-    wide-requires-2
+    widen-requires-2
     is-within-requires
     returns
     mul-n

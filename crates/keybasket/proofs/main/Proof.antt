@@ -1,6 +1,6 @@
 -- `keybasket::main` meets its contract.
 -- Assumes nothing.
-use Rattle.lines.proofs.Laws as lines
+use Rattle.batch_line.proofs.Laws as lines
 use borrow.Author.Needs.{needs}
 use Rattle.keybasket.proofs.main.Statement.{statement}
 use Rattle.keybasket.proofs.main.Tie as tie

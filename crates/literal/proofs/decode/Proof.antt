@@ -61,10 +61,10 @@ refused-decoding-requires c κs = subst IsRefused (sym (c .enum-told2 .given .1)
 
 returns-2 : tie.Need-returns-2
 returns-2 c = let q = c .before .before .before in
-    let told = c .before .enum-told2 .given .1 in
+    let known = c .before .enum-told2 .given .1 in
     let z = coded (q .before .before) in
-    let is = given q _ told in
-    (rw (decode-read _ _ _ z, is) (c .refused-decoding .ensures _ _ (ap quoteOf told)), (rw (buffer-read _ _ _ z, is), refl))
+    let is = given q _ known in
+    (rw (decode-read _ _ _ z, is) (c .refused-decoding .ensures _ _ (ap quoteOf known)), (rw (buffer-read _ _ _ z, is), refl))
 
 decode-requires : tie.Need-decode-requires
 decode-requires c κs = let q = c .before .before .before .before in

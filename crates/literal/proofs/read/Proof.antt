@@ -6,7 +6,7 @@ use borrow.Author.Tests.{ne-eqb, le-leb, lt-leb}
 use Rattle.err.specs.Numbers.{numberOf}
 use Rattle.err.proofs.Positive.{number-positive}
 use Rattle.err.specs.Checked.{checkedOf}
-use Rattle.input.proofs.Checks.{fault-passed}
+use Rattle.text_check.proofs.Checks.{fault-passed}
 use Rattle.literal.specs.Readings.{readAt}
 use borrow.Author.Needs.{needs}
 use Rattle.literal.proofs.read.Statement.{statement}

@@ -26,8 +26,8 @@ returns c = (rw (← c .before .before .from-code .ensures, c .enum-told .given 
 largest-requires : tie.Need-largest-requires
 largest-requires c κs = search needs
 
-enum-known-most : tie.Need-enum-known-most
-enum-known-most c = search needs
+enum-known-limit : tie.Need-enum-known-limit
+enum-known-limit c = search needs
 
 enum-told-2 : tie.Need-enum-told-2
 enum-told-2 c = search needs
@@ -40,13 +40,13 @@ returns-2 c = let a = c .before .before .before .before in
 -- the code stands for a type with a largest value
 typed : (c : tie.After-known-told2) →
     let a = c .before .before .before .before .before .before .before .before .before .args in
-    valueAt (a .code) (a .text .now) ≡ checkedValue (c .before .most .given .0 .0) (a .text .now)
+    valueAt (a .code) (a .text .now) ≡ checkedValue (c .before .limit .given .0 .0) (a .text .now)
 unfolding valueAt
 typed c =
     let b = c .before in
     let l = b .before .before in
     let a = l .before .before in
-    rw (← a .before .before .from-code .ensures, a .found .given .1, ← l .largest .ensures, b .most .given .1)
+    rw (← a .before .before .from-code .ensures, a .found .given .1, ← l .largest .ensures, b .limit .given .1)
 
 read-requires : tie.Need-read-requires
 read-requires c κs = search needs
@@ -82,7 +82,7 @@ value-spec =
     enum-told
     returns
     largest-requires
-    enum-known-most
+    enum-known-limit
     enum-told-2
     returns-2
     read-requires

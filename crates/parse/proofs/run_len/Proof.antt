@@ -38,16 +38,16 @@ is-in-requires : tie.Need-is-in-requires Inv-loop μ-loop
 is-in-requires c κs = search needs
 
 -- what the two calls say of a byte
-told : (c : tie.After-is-in Inv-loop μ-loop) →
+known : (c : tie.After-is-in Inv-loop μ-loop) →
     let b = c .before .before .before .before .before in
     let a = b .before .before .before .args in
     c .is-in .result ≡ inSet (a .set) (getD (a .s .now) (b .loop .i) 0)
-told c = rw (set-class, ← c .before .class-in .ensures) (c .is-in .ensures)
+known c = rw (set-class, ← c .before .class-in .ensures) (c .is-in .ensures)
 
 returns-2 : tie.Need-returns-2 Inv-loop μ-loop
 returns-2 c =
     let b = c .before .before .before .before .before in
-    sym (run-stop _ _ _ (b .loop-test .taken) (sym (told (c .before)) ∙ not-true _ (c .if2 .taken))) ∙ b .before .loop .inv .1
+    sym (run-stop _ _ _ (b .loop-test .taken) (sym (known (c .before)) ∙ not-true _ (c .if2 .taken))) ∙ b .before .loop .inv .1
 
 add-i : tie.Need-add-i Inv-loop μ-loop
 add-i c = search needs
@@ -58,7 +58,7 @@ loop-less c = search needs
 loop-again : tie.Need-loop-again Inv-loop μ-loop
 loop-again c =
     let b = c .before .before .before .before .before in
-    (search needs, sym (run-more _ _ _ (b .loop-test .taken) (sym (told (c .before)) ∙ not-false _ (c .if2 .left))) ∙ b .before .loop .inv .1)
+    (search needs, sym (run-more _ _ _ (b .loop-test .taken) (sym (known (c .before)) ∙ not-false _ (c .if2 .left))) ∙ b .before .loop .inv .1)
 
 returns-3 : tie.Need-returns-3 Inv-loop μ-loop
 returns-3 c = sym (run-end _ _ _ (c .loop-test .left)) ∙ c .before .loop .inv .1

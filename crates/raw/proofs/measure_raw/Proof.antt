@@ -10,7 +10,7 @@ use lib.ListN.{length, getD, take, drop}
 use Rattle.scan.proofs.Bytes.{byte-inside}
 use Rattle.body.proofs.Bodies.{Passed}
 use Rattle.raw.specs.Raw.{rawStepOf}
-use Rattle.raw.specs.Scan.{markOf, rawRun}
+use Rattle.raw.specs.Scan.{closingByte, rawRun}
 use Rattle.raw.proofs.Steps as steps
 use Rattle.raw.proofs.Bodies.{raw-start, raw-more, raw-measures}
 use Rattle.raw.proofs.Passes.{passed-scan, scan-closes, scan-ends}
@@ -31,8 +31,8 @@ text r = r .before .before .before .before .args .s .now
 abbrev at : tie.After-raw-end Inv-loop μ-loop → ℕ
 at r = r .raw-end .result
 
-way : (r : tie.After-raw-end Inv-loop μ-loop) → let a = r .before .before .before .before .args in at r ≡ r .before .loop .i + rawRun (a .k) (a .h) (markOf (a .h)) (drop (r .before .loop .i) (text r))
-way r = rw (r .before .before .closing-mark .ensures) at (r .raw-end .ensures)
+way : (r : tie.After-raw-end Inv-loop μ-loop) → let a = r .before .before .before .before .args in at r ≡ r .before .loop .i + rawRun (a .k) (a .h) (closingByte (a .h)) (drop (r .before .loop .i) (text r))
+way r = rw (r .before .before .closing-byte .ensures) at (r .raw-end .ensures)
 
 passed : (r : tie.After-raw-end Inv-loop μ-loop) → let a = r .before .before .before .before .args in Passed (rawStepOf (a .k) (a .h)) (text r) (at r) (take (at r) (text r))
 passed r = passed-scan _ _ _ _ _ (way r) (r .before .loop .inv)
@@ -43,8 +43,8 @@ quote c = sym (c .before .byte-at .ensures) ∙ c .if1 .left
 quote-inside : (c : tie.Else1 Inv-loop μ-loop) → at (c .before .before) < length (text (c .before .before))
 quote-inside c = byte-inside (text (c .before .before)) _ 34 (quote c) (omega arith)
 
-closing-mark-requires : tie.Need-closing-mark-requires Inv-loop μ-loop
-closing-mark-requires c κs = search needs
+closing-byte-requires : tie.Need-closing-byte-requires Inv-loop μ-loop
+closing-byte-requires c κs = search needs
 
 loop-holds : tie.Need-loop-holds Inv-loop μ-loop
 loop-holds c = raw-start _ _ _
@@ -89,7 +89,7 @@ measure-raw-spec =
     (tie.spec
     Inv-loop
     μ-loop
-    closing-mark-requires
+    closing-byte-requires
     loop-holds
     raw-end-requires
     byte-at-requires

@@ -6,7 +6,7 @@ use mathlib.Core.Bool.{Bool, cond}
 use Prim.Native.Nat.{_-_}
 use native.Mathlib.Omega.{arith}
 use Rattle.scan.specs.Sets.{only}
-use Rattle.plain_run.proofs.Blocks.{Least, least-start, least-more, least-end}
+use Rattle.body_plain.proofs.Blocks.{Least, least-start, least-more, least-end}
 use Rattle.raw.specs.Scan.{flags}
 use Rattle.raw.proofs.Flags.{length-flags, getD-flags}
 use Rattle.raw.proofs.raw_block_run.Statement.{statement}

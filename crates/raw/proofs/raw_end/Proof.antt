@@ -5,7 +5,7 @@ use Prim.Native.Nat.{_≤_, _+_, _-_}
 use mathlib.Core.Path.{_≡_, refl, sym, _∙_}
 use lib.ListN.{length, drop}
 use Rattle.raw.specs.Scan.{rawRun}
-use Rattle.raw.proofs.Flags.{scan-here, scan-behind}
+use Rattle.raw.proofs.Flags.{scan-here, scan-after}
 use Rattle.raw.proofs.raw_end.Statement.{statement}
 use Rattle.raw.proofs.raw_end.Tie as tie
 
@@ -74,7 +74,7 @@ loop-again : tie.Need-loop-again Inv-loop μ-loop
 loop-again c =
     let l = c .before .before .before .before .before in
     let a = l .before .before .args in
-    (search needs, sym (scan-behind (a .k) (a .h) (a .mark) (a .s .now) (l .loop .i) 64 _ (c .before .raw-block-run .ensures) (c .if1 .left)) ∙ l .loop .inv .1)
+    (search needs, sym (scan-after (a .k) (a .h) (a .mark) (a .s .now) (l .loop .i) 64 _ (c .before .raw-block-run .ensures) (c .if1 .left)) ∙ l .loop .inv .1)
 
 scan-from-requires : tie.Need-scan-from-requires Inv-loop μ-loop
 scan-from-requires c κs = search needs

@@ -7,8 +7,8 @@ use native.Mathlib.Omega.{arith}
 use lib.ListN.{length}
 use Rattle.err.specs.Reading.{outcomeOf}
 use Rattle.numbers.specs.Numbers.{suffixIn}
-use Rattle.bare_form.specs.Bare.{len, bareOf, bareBy}
-use Rattle.bare_form.specs.declared.Bare.{Bare}
+use Rattle.form_reading.specs.Bare.{len, bareOf, bareBy}
+use Rattle.form_reading.specs.declared.Bare.{Bare}
 use Rattle.settle.specs.Settled.{IsBad}
 use Rattle.settle.proofs.Forms.{form-inside, measure-refused, measure-long, measure-formed}
 use Rattle.settle.proofs.measure_of.Statement.{statement}
@@ -29,9 +29,9 @@ refused-requires c κs = subst (λ (b : Bare). IsBad (bareOf b)) (sym (c .enum-t
 returns : tie.Need-returns
 returns c =
     let a = c .before .before .before .before .before .args in
-    let told = c .before .enum-told .given .1 in
-    c .refused .ensures _ _ (ap bareOf told)
-    ∙ sym (measure-refused (a .text .now) (outcomeOf (a .found)) (sym (c .before .before .before .bare-len .ensures) ∙ ap bareOf told))
+    let known = c .before .enum-told .given .1 in
+    c .refused .ensures _ _ (ap bareOf known)
+    ∙ sym (measure-refused (a .text .now) (outcomeOf (a .found)) (sym (c .before .before .before .bare-len .ensures) ∙ ap bareOf known))
 
 suffix-start-requires : tie.Need-suffix-start-requires
 suffix-start-requires c κs = search needs

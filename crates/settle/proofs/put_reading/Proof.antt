@@ -69,7 +69,7 @@ returns : tie.Need-returns
 returns c =
     let w = c .before .before .before .before .before .before .before in
     let b = w .before .before .before .before .before in
-    rw (form-split _ _ (b .pre .1 .form)) (laws.behind (w .put-bare .ensures) (suffix c) (fits-both _ _ (b .pre .1)))
+    rw (form-split _ _ (b .pre .1 .form)) (laws.past (w .put-bare .ensures) (suffix c) (fits-both _ _ (b .pre .1)))
 
 pub put-reading-spec : {M : Type 1} → statement M
 put-reading-spec =

@@ -2,8 +2,8 @@
 -- Assumes nothing.
 use borrow.Author.Needs.{needs}
 use mathlib.Core.Path.{sym, ap, subst, _∙_}
-use Rattle.bare_form.specs.Bare.{bareOf}
-use Rattle.bare_form.specs.declared.Bare.{Bare}
+use Rattle.form_reading.specs.Bare.{bareOf}
+use Rattle.form_reading.specs.declared.Bare.{Bare}
 use Rattle.settle.specs.Settled.{IsBad}
 use Rattle.settle.proofs.refused.Statement.{statement}
 use Rattle.settle.proofs.refused.Tie as tie

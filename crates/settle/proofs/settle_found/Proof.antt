@@ -11,8 +11,8 @@ use Rattle.settle.proofs.Forms.{Ready, formed-fits, surely-ready, settl
 use Rattle.settle.proofs.settle_found.Statement.{statement}
 use Rattle.settle.proofs.settle_found.Tie as tie
 
-surely-fits-requires : tie.Need-surely-fits-requires
-surely-fits-requires c κs = search needs
+fits-by-bound-requires : tie.Need-fits-by-bound-requires
+fits-by-bound-requires c κs = search needs
 
 measure-of-requires : tie.Need-measure-of-requires
 measure-of-requires c κs = search needs
@@ -25,10 +25,10 @@ enum-told c = search needs
 
 returns : tie.Need-returns
 returns c =
-    let told = c .enum-told .given .1 in
+    let known = c .enum-told .given .1 in
     let m = c .before .before in
-    let a = settle-refused _ _ _ (m .before .before .before .before .before .pre) (sym (ap settledOf told) ∙ m .measure-of .ensures) in
-    (rw told (a .0), a .1)
+    let a = settle-refused _ _ _ (m .before .before .before .before .before .pre) (sym (ap settledOf known) ∙ m .measure-of .ensures) in
+    (rw known (a .0), a .1)
 
 returns-2 : tie.Need-returns-2
 returns-2 c =
@@ -43,7 +43,7 @@ fits c =
     let b = c .before in
     ⊎-elim
     (λ w. formed-fits _ _ (sym (w .1 .ensures) ∙ ap settledOf (w .3 .given .1)) (w .5 .left))
-    (λ w. surely-ready _ _ (b .before .before .before .args .found) (b .before .before .before .pre) (sym (b .surely-fits .ensures) ∙ not-false _ (w .left)))
+    (λ w. surely-ready _ _ (b .before .before .before .args .found) (b .before .before .before .pre) (sym (b .fits-by-bound .ensures) ∙ not-false _ (w .left)))
     (c .if1 .came)
 
 put-reading-requires : tie.Need-put-reading-requires
@@ -67,7 +67,7 @@ pub settle-found-spec : {M : Type 1} → statement M
 settle-found-spec =
     tie.close
     (tie.spec
-    surely-fits-requires
+    fits-by-bound-requires
     measure-of-requires
     enum-known-measure
     enum-told

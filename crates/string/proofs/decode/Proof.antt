@@ -13,8 +13,8 @@ returns c =
     let p = c .before .before .before .before .pre .1 in
     decode-small _ _ _ p (omega (arith, value-length _ _ (sym p), c .if1 .taken))
 
-put-value-requires : tie.Need-put-value-requires
-put-value-requires c κs = search needs
+put-decoded-requires : tie.Need-put-decoded-requires
+put-decoded-requires c κs = search needs
 
 same-length : tie.Need-same-length
 same-length c = search needs
@@ -23,8 +23,8 @@ returns-2 : tie.Need-returns-2
 returns-2 c =
     let e = c .before .before .before .before in
     let p = e .before .before .before .before .pre .1 in
-    let w = c .before .before .put-value .ensures in
+    let w = c .before .before .put-decoded .ensures in
     rw (w .count, w .bytes) (decode-written _ _ _ p (omega (arith, value-length _ _ (sym p), e .if1 .left)))
 
 pub decode-spec : {M : Type 1} → statement M
-decode-spec = tie.close (tie.spec returns put-value-requires same-length returns-2)
+decode-spec = tie.close (tie.spec returns put-decoded-requires same-length returns-2)

@@ -3,7 +3,7 @@
 use mathlib.Core.Path.{ap}
 use native.Mathlib.Omega.{arith}
 use Rattle.string.specs.String.{ofQuote}
-use Rattle.string.proofs.Starts.{read-none, read-some, told-quoted, told-raw}
+use Rattle.string.proofs.Starts.{read-none, read-some, known-quoted, known-raw}
 use Rattle.string.proofs.Literals.{opening-inside}
 use borrow.Author.Needs.{needs}
 use Rattle.string.proofs.parse_lit.Statement.{statement}
@@ -27,7 +27,7 @@ unescape-string-requires c κs =
     let f = e .before .before in
     let b = f .before .before .before in
     let a = b .args in (
-      omega (arith, c .offset .ensures, opening-inside (a .k) (a .text .now) (told-quoted (a .k) (a .text .now) (f .opening-of .result) (f .opening-of .ensures) (e .enum-told .given .1))),
+      omega (arith, c .offset .ensures, opening-inside (a .k) (a .text .now) (known-quoted (a .k) (a .text .now) (f .opening-of .result) (f .opening-of .ensures) (e .enum-told .given .1))),
       b .pre,
     )
 
@@ -42,7 +42,7 @@ scan-raw-string-requires c κs =
     let e = c .before in
     let f = e .before .before in
     let a = f .before .before .before .args in
-    omega (arith, c .offset2 .ensures, opening-inside (a .k) (a .text .now) (told-raw (a .k) (a .text .now) (f .opening-of .result) (f .opening-of .ensures) (e .enum-told2 .given .1)))
+    omega (arith, c .offset2 .ensures, opening-inside (a .k) (a .text .now) (known-raw (a .k) (a .text .now) (f .opening-of .result) (f .opening-of .ensures) (e .enum-told2 .given .1)))
 
 enum-told-3 : tie.Need-enum-told-3
 enum-told-3 c = search needs

@@ -26,12 +26,12 @@ returns-2 c = let b = c .before in
     let within = b .before .before .if1 .left in
     sym (decode-short _ _ _ within (b .char-len .ensures) (λ e. omega (arith, within, e, c .if2 .taken)) (c .if2 .taken))
 
-wide-requires : tie.Need-wide-requires
-wide-requires c κs = search needs
+widen-requires : tie.Need-widen-requires
+widen-requires c κs = search needs
 
 returns-3 : tie.Need-returns-3
 returns-3 c = let b = c .before .before .before in
-    ap (λ (x : ℕ). Char x 1) (c .wide .ensures) ∙ sym (decode-one _ _ _ (b .before .before .if1 .left) (b .char-len .ensures) (c .before .if3 .taken))
+    ap (λ (x : ℕ). Char x 1) (c .widen .ensures) ∙ sym (decode-one _ _ _ (b .before .before .if1 .left) (b .char-len .ensures) (c .before .if3 .taken))
 
 add-two : tie.Need-add-two
 add-two c = search needs
@@ -103,7 +103,7 @@ decode-char-spec =
     char-len-requires
     sub-if2
     returns-2
-    wide-requires
+    widen-requires
     returns-3
     add-two
     shared-slice-read-two

@@ -1,0 +1,76 @@
+-- `batch_record::put_form` meets its contract.
+-- Assumes nothing.
+use native.Mathlib.Omega.{arith}
+use mathlib.Core.Path.{_≡_, sym, ap, _∙_}
+use lib.ListN.{length}
+use Rattle.err.specs.Numbers.{numberOf}
+use Rattle.err.specs.Reading.{placeOf}
+use Rattle.settle.specs.Settled.{formed, refusal, settledOf, settleAt}
+use borrow.Author.Needs.{needs}
+use Rattle.batch_record.proofs.Laws as laws
+use Rattle.batch_record.proofs.put_form.Statement.{statement}
+use Rattle.batch_record.proofs.put_form.Tie as tie
+
+-- what settling came to, in each arm
+formed-told : (c : tie.After-s2) →
+    let a = c .before .before .before .before .before .before .before .before .before .args in
+    settleAt (a .text .now) (length (a .out .now)) ≡ formed (c .s2 .given .0 .0) (c .s2 .given .0 .1 .0)
+formed-told c = sym (c .before .before .before .before .settle .ensures .0) ∙ ap settledOf (c .s2 .given .1)
+
+refused-told : (c : tie.After-s) →
+    let a = c .before .before .before .before .before .before .before .before .before .args in
+    settleAt (a .text .now) (length (a .out .now)) ≡ refusal (numberOf (c .s .given .0 .0)) (placeOf (c .s .given .0 .1 .0))
+refused-told c = sym (c .before .before .before .before .settle .ensures .0) ∙ ap settledOf (c .s .given .1)
+
+settle-requires : tie.Need-settle-requires
+settle-requires c κs = search needs
+
+enum-known-s : tie.Need-enum-known-s
+enum-known-s c = search needs
+
+put-refusal-requires : tie.Need-put-refusal-requires
+put-refusal-requires c κs = search needs
+
+enum-known-s-2 : tie.Need-enum-known-s-2
+enum-known-s-2 c = search needs
+
+put-formed-requires : tie.Need-put-formed-requires
+put-formed-requires c κs = omega (arith, laws.settled-fits _ _ (formed-told (c .before .before .before)), c .before .before .before .before .before .before .before .before .before .before .before .before .pre)
+
+same-length : tie.Need-same-length
+same-length c = search needs
+
+same-length-2 : tie.Need-same-length-2
+same-length-2 c = search needs
+
+returns : tie.Need-returns
+returns c = ((rw (refused-told (c .before .before .before .before .before)) (c .before .before .put-refusal .ensures .0), omega (arith, c .before .before .put-refusal .ensures .1)), c .before .before .before .before .before .before .before .before .before .settle .ensures .1 .0)
+
+same-length-3 : tie.Need-same-length-3
+same-length-3 c = search needs
+
+same-length-4 : tie.Need-same-length-4
+same-length-4 c = search needs
+
+returns-2 : tie.Need-returns-2
+returns-2 c =
+    let d = c .before .before .before .before .before .before .before .before .before .before .settle .ensures in
+    let a = c .before .before .before .before .before .before .before .before .before .before .before .before .before .before .before .args in
+    let p = c .before .before .put-formed .ensures in
+    ((rw (formed-told (c .before .before .before .before .before .before), ← laws.form-written (a .text .now) (a .out .now) (formed-told (c .before .before .before .before .before .before)), ← d .1 .0) (p .0), omega (arith, p .1, laws.settled-fits _ _ (formed-told (c .before .before .before .before .before .before)))), d .1 .0)
+
+pub put-form-spec : {M : Type 1} → statement M
+put-form-spec =
+    tie.close
+    (tie.spec
+    settle-requires
+    enum-known-s
+    put-refusal-requires
+    enum-known-s-2
+    put-formed-requires
+    same-length
+    same-length-2
+    returns
+    same-length-3
+    same-length-4
+    returns-2)

@@ -1,0 +1,86 @@
+-- The line of a record (docs/BATCH.md, A record; The lines), and what the lent buffer holds then.
+-- Assumes nothing.
+use Prim.Native.Nat.{ℕ}
+use mathlib.Core.Bool.{cond}
+use mathlib.Core.List.{List, [], _∷_, _++_}
+use lib.Dec.{eqb}
+use lib.ListN.{length, take, drop, replicate}
+use Rattle.err.specs.Outcome.{Place}
+use Rattle.batch_line.specs.Lines.{hexPiece, keptPiece, refusalLine, okLine, kindLine, readingLine}
+use Rattle.integer_value.specs.Value as value
+use Rattle.string.specs.Decode as decode
+use Rattle.literal.specs.Readings.{readAt}
+use Rattle.literal.specs.Values.{valueAt}
+use Rattle.literal.specs.Suffixes.{integerFromSuffix, floatFromSuffix}
+use Rattle.literal.specs.Decodes as decodes
+use Rattle.settle.specs.Settled as settled
+
+-- ---- the line of what a call came to
+
+-- `ok VALUE`
+abbrev pub valuedLine : value.Valued → List ℕ
+valuedLine (value.returned n) = okLine n
+valuedLine (value.refusal n p) = refusalLine n p
+
+-- the first n bytes of a lent buffer: ` HEX kept`
+unfoldable pub writtenPiece : ℕ → List ℕ → List ℕ
+writtenPiece n buf = hexPiece (take n buf) ++ keptPiece (drop n buf)
+
+-- "after `D` and `S` it ends in ` kept` where the whole buffer is still 165, else in ` changed`"
+unfoldable pub refusedLine : ℕ → Place → List ℕ → List ℕ
+refusedLine n p buf = refusalLine n p ++ keptPiece buf
+
+-- `ok LENGTH HEX kept`
+abbrev pub decodedLine : decode.Decode → List ℕ → List ℕ
+decodedLine (decode.returned n) buf = okLine n ++ writtenPiece n buf
+decodedLine (decode.refusal n p) buf = refusedLine n p buf
+
+-- `ok KIND LENGTH HEX kept`
+abbrev pub settledLine : settled.FormAnswer → List ℕ → List ℕ
+settledLine (settled.returned (kind, n)) buf = kindLine kind n ++ writtenPiece n buf
+settledLine (settled.refusal n p) buf = refusedLine n p buf
+
+-- ---- the table of operations, over a lent buffer that held `buf`
+
+-- `D`
+unfoldable pub decodingLine : ℕ → List ℕ → List ℕ → List ℕ
+decodingLine code text buf = decodedLine (decodes.decodeAt code text (length buf)) (decodes.decodeBuffer code text buf)
+
+-- `S`
+unfoldable pub settlingLine : List ℕ → List ℕ → List ℕ
+settlingLine text buf = settledLine (settled.settleAt text (length buf)) (settled.settleBuffer text buf)
+
+-- "An unknown letter's line is `bad operation`"
+abbrev pub badOperation : List ℕ
+badOperation = 98 ∷ 97 ∷ 100 ∷ 32 ∷ 111 ∷ 112 ∷ 101 ∷ 114 ∷ 97 ∷ 116 ∷ 105 ∷ 111 ∷ 110 ∷ []
+
+-- by the letter: `R`, `V`, `D`, `S`, `I`, `F`
+unfoldable pub operationLine : ℕ → ℕ → List ℕ → List ℕ → List ℕ
+operationLine letter code text buf =
+    cond (eqb letter 82) (readingLine (readAt code text))
+    (cond (eqb letter 86) (valuedLine (valueAt code text))
+    (cond (eqb letter 68) (decodingLine code text buf)
+    (cond (eqb letter 83) (settlingLine text buf)
+    (cond (eqb letter 73) (okLine (integerFromSuffix text))
+    (cond (eqb letter 70) (okLine (floatFromSuffix text))
+    badOperation)))))
+
+-- what the buffer holds then: only `D` and `S` write
+unfoldable pub operationBuffer : ℕ → ℕ → List ℕ → List ℕ → List ℕ
+operationBuffer letter code text buf =
+    cond (eqb letter 68) (decodes.decodeBuffer code text buf)
+    (cond (eqb letter 83) (settled.settleBuffer text buf)
+    buf)
+
+-- ---- a record, whose lent buffer has `have` bytes
+
+-- "The lent buffer is filled with byte 165 before each call"
+abbrev pub filled : ℕ → List ℕ
+filled have = replicate have 165
+
+-- "one line for each"
+unfoldable pub recordLine : ℕ → ℕ → List ℕ → ℕ → List ℕ
+recordLine letter code text have = operationLine letter code text (filled have) ++ (10 ∷ [])
+
+unfoldable pub recordBuffer : ℕ → ℕ → List ℕ → ℕ → List ℕ
+recordBuffer letter code text have = operationBuffer letter code text (filled have)
