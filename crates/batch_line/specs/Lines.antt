@@ -18,15 +18,18 @@ pub record Added (piece : List ℕ) (at n : ℕ) (before after : List ℕ) : Typ
 -- ---- pieces
 
 -- "all decimal"
+-- 32 is space
 unfoldable pub numberPiece : ℕ → List ℕ
 numberPiece n = 32 ∷ decimal n
 
 -- ` START END`, ` - -` "where it has no span"
+-- 32 is space, 45 is `-`
 abbrev pub placePiece : Place → List ℕ
 placePiece none = 32 ∷ 45 ∷ 32 ∷ 45 ∷ []
 placePiece (between a e) = numberPiece a ++ numberPiece e
 
 -- "HASHES is `-` when not raw"
+-- 32 is space, 45 is `-`
 abbrev pub hashesPiece : Rawness → List ℕ
 hashesPiece notRaw = 32 ∷ 45 ∷ []
 hashesPiece (raw n) = numberPiece n
@@ -45,6 +48,7 @@ hexes [] = []
 hexes (b ∷ s) = hexDigits b ++ hexes s
 
 -- "HEX is the written bytes in lower-case hexadecimal, `-` when there are none"
+-- 32 is space, 45 is `-`
 abbrev pub hexPiece : List ℕ → List ℕ
 hexPiece [] = 32 ∷ 45 ∷ []
 hexPiece (b ∷ s) = 32 ∷ hexes (b ∷ s)

@@ -55,6 +55,7 @@ abbrev pub badOperation : List ℕ
 badOperation = 98 ∷ 97 ∷ 100 ∷ 32 ∷ 111 ∷ 112 ∷ 101 ∷ 114 ∷ 97 ∷ 116 ∷ 105 ∷ 111 ∷ 110 ∷ []
 
 -- by the letter: `R`, `V`, `D`, `S`, `I`, `F`
+-- 82 is `R`, 86 is `V`, 68 is `D`, 83 is `S`, 73 is `I`, 70 is `F`
 unfoldable pub operationLine : ℕ → ℕ → List ℕ → List ℕ → List ℕ
 operationLine letter code text buf =
     cond (eqb letter 82) (readingLine (readAt code text))
@@ -66,6 +67,7 @@ operationLine letter code text buf =
     badOperation)))))
 
 -- what the buffer holds then: only `D` and `S` write
+-- 68 is `D`, 83 is `S`
 unfoldable pub operationBuffer : ℕ → ℕ → List ℕ → List ℕ → List ℕ
 operationBuffer letter code text buf =
     cond (eqb letter 68) (decodes.decodeBuffer code text buf)
@@ -79,6 +81,7 @@ abbrev pub filled : ℕ → List ℕ
 filled have = replicate have 165
 
 -- "one line for each"
+-- 10 is LF
 unfoldable pub recordLine : ℕ → ℕ → List ℕ → ℕ → List ℕ
 recordLine letter code text have = operationLine letter code text (filled have) ++ (10 ∷ [])
 

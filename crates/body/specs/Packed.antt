@@ -15,6 +15,7 @@ packedNext (piece n u) = packedPiece n u
 packedNext (stop e) = 0
 
 -- what a backslash at the front starts; 0 where it ends the body, or where no backslash stands
+-- 92 is `\`
 unfoldable pub packedBackslash : Allowed → List ℕ → ℕ
 packedBackslash k [] = 0
 packedBackslash k (b ∷ s) = cond (eqb b 92) (packedNext (backslashOf k (b ∷ s))) 0

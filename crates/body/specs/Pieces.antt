@@ -23,6 +23,7 @@ pub record Char (k : Allowed) (b : ℕ) : Type 0 where
 
 -- What stands between the quotes, and its value: bytes that stand for themselves, escapes, and dropped line breaks, each of which drops
 -- every space, tab and LF that follows. Law `exact` of `body_value` shows that `body` reads exactly this.
+-- 92 is `\`, 10 is LF
 pub data Content (k : Allowed) : List ℕ → List ℕ → Type 0 where
   none : Content k [] []
   char : {s v : List ℕ} (b : ℕ) → Char k b → Content k s v → Content k (b ∷ s) (b ∷ v)

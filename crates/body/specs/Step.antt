@@ -61,10 +61,12 @@ lineBreakOf s =
     (piece (run blank s + 2) Nothing)
 
 -- the two arms for a backslash; 01, Escapes: "In quoted strings the escape never sees the text's last character"
+-- 10 is LF
 unfoldable pub backslashOf : Allowed → List ℕ → Next
 backslashOf k s = cond (eqb (getD s 1 0) 10) (lineBreakOf (drop 2 s)) (ofEscape (escapeOf k (front s)))
 
 -- the arms for any other byte, in their order: CR is 37, a quote closes, NUL is 36 and a byte above 127 is 25 where the kind has none
+-- 13 is CR, 34 is `"`
 unfoldable pub plainOf : Allowed → ℕ → Next
 plainOf k b =
     cond (eqb b 13) (stop (refuse 37 (between 0 1)))
@@ -74,6 +76,7 @@ plainOf k b =
     (piece 1 (Byte b)))))
 
 -- `match input.as_bytes()[i]` of `unescape_string`, on what is left of the text; after the last byte 30
+-- 92 is `\`
 unfoldable pub stepOf : Allowed → List ℕ → Next
 stepOf k [] = stop (refuse 30 none)
 stepOf k (b ∷ s) = cond (eqb b 92) (backslashOf k (b ∷ s)) (plainOf k b)

@@ -7,6 +7,7 @@ use Rattle.escape.specs.Allows.{unicode, allowNul}
 use Rattle.escape.specs.declared.Allowed.{Allowed}
 
 -- the last arm of `unescape_string`'s loop, `_ => i += 1`: a byte that stands for itself (`body`, proofs/Runs: so it does in a quoted and in a raw body)
+-- 92 is `\`, 13 is CR, 34 is `"`
 unfoldable pub plainByte : Allowed → ℕ → Bool
 plainByte k b =
     cond (eqb b 92) false

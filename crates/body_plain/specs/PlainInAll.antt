@@ -11,6 +11,7 @@ use Rattle.escape.specs.Allows.{unicode}
 use Rattle.escape.specs.declared.Allowed.{Allowed}
 
 -- a byte that stands for itself in every kind of body, unless it is above 127: no backslash, quote, CR or NUL
+-- 92 is `\`, 34 is `"`, 13 is CR
 unfoldable pub plainInAll : ℕ → Bool
 plainInAll b = not (eqb b 92) && not (eqb b 34) && (not (eqb b 13) && not (eqb b 0))
 

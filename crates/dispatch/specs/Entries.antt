@@ -18,6 +18,7 @@ unfoldable pub numberEntry : List ℕ → ℕ
 numberEntry s = cond (startsFloat s) 3 2
 
 -- of a text that starts with `b`: byte, byte string, or 9, which is no entry
+-- 39 is `'`, 114 is `r`, 34 is `"`
 unfoldable pub byteEntry : List ℕ → ℕ
 byteEntry s =
     cond (eqb (getD s 1 0) 39) 6
@@ -25,6 +26,7 @@ byteEntry s =
     9)
 
 -- by the first byte, as `anyBy`
+-- 102 is `f`, 116 is `t`, 39 is `'`, 34 is `"`, 114 is `r`, 98 is `b`, 99 is `c`
 unfoldable pub entryBy : ℕ → List ℕ → ℕ
 entryBy b s =
     cond (decDigit b) (numberEntry s)

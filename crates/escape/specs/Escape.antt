@@ -47,6 +47,7 @@ escapedOf (escape.Bad k s) = bad (numberOf k) (placeOf s)
 -- ---- one letter
 
 -- the arms for `'`, `"`, `n`, `r`, `t` and the backslash: the byte that the letter stands for; 0 for every other byte
+-- 39 is `'`, 34 is `"`, 110 is `n`, 114 is `r`, 116 is `t`, 92 is `\`
 unfoldable pub simpleEscapeOf : ℕ → ℕ
 simpleEscapeOf b =
     cond (eqb b 39) 39
@@ -83,6 +84,7 @@ pub data Hex : Type 0 where
   fault : ℕ → ℕ → Hex
 
 -- the loop over `inner`, at offset i and after n digits worth v: `_` is passed over, no hex digit is 15, a seventh digit is 16
+-- 95 is `_`
 abbrev pub hexFrom : ℕ → ℕ → ℕ → List ℕ → Hex
 hexFrom i n v [] = number v
 hexFrom i n v (b ∷ s) =
@@ -108,6 +110,7 @@ uHex k n (number v) = uScalar k n v
 uHex k n (fault num i) = bad num (between (i + 3) (i + 4))
 
 -- `matches!(inner.as_bytes().first(), None | Some(&b'_'))`
+-- 95 is `_`
 unfoldable pub badStart : List ℕ → Bool
 badStart [] = true
 badStart (b ∷ d) = eqb b 95
@@ -123,6 +126,7 @@ uBraced k s n =
     (uInner k (take n (drop 3 s)))
 
 -- the arm for `u`: first where the kind has no Unicode escapes (12), then no brace (14), then what stands after it
+-- 123 is `{`, 125 is `}`
 unfoldable pub uEscape : Allowed → List ℕ → Escaped
 uEscape k s =
     cond (unicode k)
@@ -134,6 +138,7 @@ uEscape k s =
 -- ---- one escape
 
 -- `match first`, where the second byte is b: a letter, `0` (35 where the kind has no NUL), `x`, `u`; any other is 8
+-- 48 is `0`, 120 is `x`, 117 is `u`
 unfoldable pub escapeBy : Allowed → ℕ → List ℕ → Escaped
 escapeBy k b s =
     cond (eqb (simpleEscapeOf b) 0)

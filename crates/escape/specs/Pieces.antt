@@ -15,12 +15,14 @@ use Rattle.escape.specs.declared.Unescaped.{Unescaped}
 use Rattle.escape.specs.declared.Unescaped.the-variants.{Byte, Unicode}
 
 -- n hex digits, each with any number of `_` after it, and their number
+-- 95 is `_`
 pub data Hexes : ℕ → List ℕ → ℕ → Type 0 where
   one : {d : List ℕ} {v : ℕ} (b : ℕ) (us : List ℕ) → classOf b < 16 → All (only 95) us → d ≡ b ∷ us → v ≡ classOf b → Hexes 1 d v
   more : {n : ℕ} {d e : List ℕ} {v w : ℕ} (b : ℕ) (us : List ℕ) → Hexes n d v → classOf b < 16 → All (only 95) us
       → e ≡ d ++ (b ∷ us) → w ≡ 16 * v + classOf b → Hexes (n + 1) e w
 
 -- an escape and its value: one letter, `\0`, `\x` with two digits, `\u{}` with one to six digits of a scalar value
+-- 92 is `\`, 48 is `0`, 120 is `x`, 117 is `u`, 123 is `{`, 125 is `}`
 pub data Esc (k : Allowed) : List ℕ → Unescaped → Type 0 where
   letter : (b : ℕ) → (simpleEscapeOf b ≡ 0 → ⊥) → Esc k (92 ∷ b ∷ []) (Byte (simpleEscapeOf b))
   nul : allowNul k ≡ true → Esc k (92 ∷ 48 ∷ []) (Byte 0)

@@ -36,6 +36,7 @@ printable b = leb 32 b && ltb b 127
 
 -- a byte that is its own form (`proofs/Styles` shows it): no control character, backslash or quote, and one above 127 only in a kind that
 -- lets it stand as itself
+-- 92 is `\`
 unfoldable pub itself : Bool → ℕ → ℕ → Bool
 itself verbatim q b =
     cond (ltb b 32) false

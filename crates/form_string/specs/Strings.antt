@@ -14,6 +14,7 @@ worthIn Bytes v = worth.byte-string v
 worthIn C v = worth.c-string v
 
 -- 01, The settled form: "Quoted: never raw"
+-- 34 is `"`, 98 is `b`, 99 is `c`
 abbrev pub openingOf : Allowed → List ℕ
 openingOf Text = 34 ∷ []
 openingOf Bytes = 98 ∷ 34 ∷ []

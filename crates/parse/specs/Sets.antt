@@ -42,5 +42,6 @@ unfoldable pub hexDigitOf : ℕ → HexDigit
 hexDigitOf b = cond (ltb (classOf b) 16) (Value (classOf b)) NotHex
 
 -- `e` or `E` stands at an offset (01, Integers: "a leading e or E"; Floats: an exponent's first byte)
+-- 101 is `e`, 69 is `E`
 unfoldable pub startsE : List ℕ → ℕ → Bool
 startsE s at = eqb (getD s at 0) 101 || eqb (getD s at 0) 69

@@ -18,6 +18,7 @@ pub record RawChar (k : Allowed) (b : ℕ) : Type 0 where
   pub ascii : (not (unicode k) && ltb 127 b) ≡ false
 
 -- a quote that h hashes follow stands at n
+-- 34 is `"`, 35 is `#`
 abbrev pub ClosesAt : ℕ → List ℕ → ℕ → Type 0
 ClosesAt h s n = (getD s n 0 ≡ 34) × (h ≤ run (only 35) (drop (suc n) s))
 

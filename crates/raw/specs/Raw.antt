@@ -18,6 +18,7 @@ use Rattle.body.specs.Quote.{Quote, refused, afterBody}
 
 -- 01, Quoted kinds: "A raw string closes at its first inner quote followed by its hashes", of which there are h; another quote stands for
 -- itself, and then CR, NUL and non-ASCII are refused as in a quoted body
+-- 34 is `"`, 35 is `#`
 unfoldable pub rawByte : Allowed → ℕ → ℕ → List ℕ → Next
 rawByte k h b s =
     cond (eqb b 34)
@@ -41,6 +42,7 @@ rawFrom k h offset text = afterBody text (raw h) offset (rawBody k h (drop offse
 
 -- 01, Quoted kinds: h hashes stand at an offset; "only hashes to the end, however many" are 3, then "255 at most, else 38", then hashes
 -- "not followed by a quote are 3"
+-- 34 is `"`
 unfoldable pub rawAt : Allowed → ℕ → ℕ → List ℕ → Quote
 rawAt k h offset text =
     cond (eqb (offset + h) (length text)) (refused 3 none)
@@ -49,5 +51,6 @@ rawAt k h offset text =
     (refused 3 none)))
 
 -- litrs's `scan_raw_string`: of a text whose hashes start at an offset
+-- 35 is `#`
 unfoldable pub rawOf : Allowed → ℕ → List ℕ → Quote
 rawOf k offset text = rawAt k (run (only 35) (drop offset text)) offset text

@@ -12,6 +12,7 @@ use Rattle.escape.specs.Allows.{unicode, allowNul}
 use Rattle.escape.specs.declared.Allowed.{Allowed}
 
 -- a byte that a raw body may hold: no CR, and no NUL or byte above 127 where the kind has none
+-- 13 is CR
 unfoldable pub rawPlain : Allowed → ℕ → Bool
 rawPlain k b = cond (eqb b 13) false (cond (eqb b 0) (allowNul k) (cond (ltb 127 b) (unicode k) true))
 
@@ -20,6 +21,7 @@ unfoldable pub closingByte : ℕ → ℕ
 closingByte h = cond (eqb h 0) 34 35
 
 -- a byte b is passed over, unless it is a quote and the byte `far`, h bytes after it, is the mark m
+-- 34 is `"`
 unfoldable pub passes : Allowed → ℕ → ℕ → ℕ → Bool
 passes k m b far = cond (rawPlain k b) (not (eqb b 34 && eqb far m)) false
 

@@ -15,6 +15,7 @@ suffixStart b = not (ltb (classOf b) 10) && suffixRest b
 
 -- "`_` alone is 39; a first ASCII character other than letter or `_` is 2; a later ASCII character other than letter, digit or
 -- `_` is 39"
+-- 95 is `_`
 unfoldable pub faultFrom : ℕ → List ℕ → ℕ
 faultFrom b s =
     cond (eqb b 95 && eqb (length s) 0) 39

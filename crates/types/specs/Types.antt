@@ -89,6 +89,7 @@ largestOf I64 = Value 0x7FFFFFFFFFFFFFFF
 largestOf I128 = NoValues
 largestOf Isize = NoValues
 
+-- the names `f32`, `f64`; every other name has none
 unfoldable pub floatNamed : List ℕ → FloatFound
 floatNamed s =
     cond (same s (102 ∷ 51 ∷ 50 ∷ [])) (float.Type F32)
