@@ -17,24 +17,24 @@ pub record Added (piece : List ℕ) (at n : ℕ) (before after : List ℕ) : Typ
 
 -- ---- pieces
 
--- "all decimal"
+-- "The values of a reading are decimal"
 -- 32 is space
 unfoldable pub numberPiece : ℕ → List ℕ
 numberPiece n = 32 ∷ decimal n
 
--- ` START END`, ` - -` "where it has no span"
+-- ` START END`, ` - -` "if it has no span"
 -- 32 is space, 45 is `-`
 abbrev pub placePiece : Place → List ℕ
 placePiece none = 32 ∷ 45 ∷ 32 ∷ 45 ∷ []
 placePiece (between a e) = numberPiece a ++ numberPiece e
 
--- "HASHES is `-` when not raw"
+-- "HASHES is `-` if it is not raw"
 -- 32 is space, 45 is `-`
 abbrev pub hashesPiece : Rawness → List ℕ
 hashesPiece notRaw = 32 ∷ 45 ∷ []
 hashesPiece (raw n) = numberPiece n
 
--- the table "Values of a reading", after SUFFIX: ` TRUTH` "(1 or 0)"; ` BASE START END`; ` END_INTEGER END_FRACTIONAL END_NUMBER`; ` SCALAR`
+-- the table after "The values of a reading are decimal", after SUFFIX: ` TRUTH` "(1 or 0)"; ` BASE START END`; ` END_INTEGER END_FRACTIONAL END_NUMBER`; ` SCALAR`
 -- and ` VALUE`; ` HASHES LENGTH`
 abbrev pub valuesPiece : Values → List ℕ
 valuesPiece (truth t) = numberPiece (cond t 1 0)
@@ -47,18 +47,18 @@ abbrev pub hexes : List ℕ → List ℕ
 hexes [] = []
 hexes (b ∷ s) = hexDigits b ++ hexes s
 
--- "HEX is the written bytes in lower-case hexadecimal, `-` when there are none"
+-- "HEX is the written bytes in lower-case hexadecimal, or `-` if there are none"
 -- 32 is space, 45 is `-`
 abbrev pub hexPiece : List ℕ → List ℕ
 hexPiece [] = 32 ∷ 45 ∷ []
 hexPiece (b ∷ s) = 32 ∷ hexes (b ∷ s)
 
--- "every byte .. still is 165"
+-- "every byte .. is still 165"
 abbrev pub kept : List ℕ → Bool
 kept [] = true
 kept (b ∷ s) = eqb b 165 && kept s
 
--- ` kept` "where every byte after them still is 165, else" ` changed`
+-- "`kept` if every byte after them is still 165, else `changed`"
 unfoldable pub keptPiece : List ℕ → List ℕ
 keptPiece rest = cond (kept rest) (32 ∷ 107 ∷ 101 ∷ 112 ∷ 116 ∷ []) (32 ∷ 99 ∷ 104 ∷ 97 ∷ 110 ∷ 103 ∷ 101 ∷ 100 ∷ [])
 
@@ -76,7 +76,7 @@ okLine n = (111 ∷ 107 ∷ []) ++ numberPiece n
 unfoldable pub kindLine : ℕ → ℕ → List ℕ
 kindLine kind n = okLine kind ++ numberPiece n
 
--- the table "Values of a reading"
+-- the table after "The values of a reading are decimal"
 abbrev pub readingLine : Outcome → List ℕ
 readingLine (refused n p) = refusalLine n p
 readingLine (accepted kind e vs) = kindLine kind e ++ valuesPiece vs

@@ -26,7 +26,7 @@ valuedLine (value.refusal n p) = refusalLine n p
 unfoldable pub writtenPiece : ℕ → List ℕ → List ℕ
 writtenPiece n buf = hexPiece (take n buf) ++ keptPiece (drop n buf)
 
--- "after `D` and `S` it ends in ` kept` where the whole buffer is still 165, else in ` changed`"
+-- "For `D` and `S` it ends in ` kept` if the whole buffer is still 165, else in ` changed`"
 unfoldable pub refusedLine : ℕ → Place → List ℕ → List ℕ
 refusedLine n p buf = refusalLine n p ++ keptPiece buf
 
@@ -50,7 +50,7 @@ decodingLine code text buf = decodedLine (decodes.decodeAt code text (length buf
 unfoldable pub settlingLine : List ℕ → List ℕ → List ℕ
 settlingLine text buf = settledLine (settled.settleAt text (length buf)) (settled.settleBuffer text buf)
 
--- "An unknown letter's line is `bad operation`"
+-- "For an unknown letter the line is `bad operation`"
 abbrev pub badOperation : List ℕ
 badOperation = 98 ∷ 97 ∷ 100 ∷ 32 ∷ 111 ∷ 112 ∷ 101 ∷ 114 ∷ 97 ∷ 116 ∷ 105 ∷ 111 ∷ 110 ∷ []
 

@@ -38,7 +38,7 @@ FloatOf s l =
     (length s ≤ 65536)
     × (floatRead s ≡ accepted 3 (l .«end_number_part») (valuesOfFloat l))
 
--- no exponent that is above 2,000,000 can be mended by the 65,536 digits of a text; all of them are clamped to one
+-- no exponent that is above 2,000,000 can be mended by the 65,536 digits of a text; all of them are clamped to 2,000,001
 unfoldable pub clamped : ℕ → ℕ
 clamped n = cond (leb n 2000000) n 2000001
 

@@ -20,7 +20,7 @@ module _ (m : List ℕ) (d : Decimal) (r : Scaling) (h : Scales m d r) where
   zero-coef : r ≡ scaling.Zero → d .coef ≡ 0
   zero-coef e = subst (λ (x : Scaling). Scales m d x) e h
 
-  -- zero is `0e0`, and powerInRange
+  -- zero is `0e0`, and its power is in range
   pub zero-near : r ≡ scaling.Zero → powerInRange d ≡ true
   unfolding reduce
   zero-near e = rw (zero-coef e)

@@ -115,7 +115,7 @@ pub fn float_len(text: &[u8], lit: FloatLit) -> FormLen
     }
 }
 
-// The form of a float without its suffix, where its power is powerInRange; so `TooFar` cannot arise.
+// The form of a float without its suffix, where its power is in range; so `TooFar` cannot arise.
 pub fn put_float(out: &mut [u8], text: &[u8], lit: FloatLit) -> usize
     requires { ⌜ FloatOf (now text) lit × ((powerInRange (decimalOf (now text) lit) ≡ true) × (length (reducedForm (reduce (decimalOf (now text) lit))) ≤ length (now out))) ⌝ }
     ensures { λ n. ⌜ Wrote (reducedForm (reduce (decimalOf (now (text .entry)) lit))) n (now (out .entry)) (now (out .exit)) ⌝ }

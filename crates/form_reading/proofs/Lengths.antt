@@ -84,7 +84,7 @@ module _ (d : Decimal) (x : List ℕ) where
       by-test true = refl
       by-test false = refl
 
-  -- where there is a form, the power is powerInRange
+  -- where there is a form, the power is in range
   pub float-near : {n : ℕ} → bareLen (worth.float d) x ≡ len n → powerInRange d ≡ true
   unfolding bareLen
   float-near {n} = by-test (powerInRange d)

@@ -1,4 +1,4 @@
--- A text is UTF-8 exactly where no byte is at fault after the three before it and no continuation is wanted at the end.
+-- A text is UTF-8 exactly where no byte is at fault after the three before it and no continuation byte is wanted at the end.
 -- Assumes nothing.
 use mathlib.Core.Path.{_≡_, refl, sym, ap, _∙_}
 use mathlib.Core.Logic.{_⊎_, inl, inr, ⊎-elim}
@@ -115,7 +115,7 @@ never-not x h l =
     let out : (n : ℕ) → 0xC0 ≤ n → n < 0xC2 → x ≡ n → ⊥ = λ n g k e. ⊎-elim (λ m. omega arith) (λ m. omega arith) h in
     simp (ne-eqb x 0xC0 (out 0xC0 (omega arith) (omega arith)), ne-eqb x 0xC1 (out 0xC1 (omega arith) (omega arith)), le-ltb 0xF4 x l)
 
--- a continuation is wanted exactly where one stands, or exactly where none does
+-- a continuation byte is wanted exactly where one stands, or exactly where none does
 kept : (w : Bool) → xor w w ≡ false
 unfolding xor
 kept true = refl
@@ -152,13 +152,13 @@ module _ (c b a : ℕ) where
   clean-stop : (x : ℕ) (s : List ℕ) → (faultMask c b a x ≡ 0 → ⊥) → clean c b a (x ∷ s) ≡ false
   clean-stop x s h = simp (ne-eqb (faultMask c b a x) 0 h)
 
-  -- a byte where no continuation is wanted
+  -- a byte where no continuation byte is wanted
   clean-first : (x : ℕ) (s : List ℕ) → a < 0xC0 → b < 0xE0 → c < 0xF0 → continuation x ≡ false → never x ≡ false → x ≤ 0xF4 → clean c b a (x ∷ s) ≡ clean b a x s
   clean-first x s ha hb hc t n u =
       simp (eq-eqb (faultMask c b a x) 0
       (no-fault c b a x (t ∙ sym (wants-none c b a ha hb hc)) n (omega (arith, least-any a (omega arith))) (omega (arith, most-any a (omega arith)))))
 
-  -- where one is wanted: a continuation in range, a continuation out of range, no continuation
+  -- where one is wanted: a continuation byte in range, a continuation byte out of range, no continuation byte
   clean-tail : (s : List ℕ) → wantsContinuation c b a ≡ true → continuation (getD s 0 0) ≡ true → leastAfter a ≤ getD s 0 0 → getD s 0 0 ≤ greatestAfter a
       → clean c b a s ≡ clean b a (getD s 0 0) (drop 1 s)
   unfolding continuation
@@ -178,7 +178,7 @@ module _ (c b a : ℕ) where
 
 -- ---- a text character by character
 
--- after c, b, a, where no continuation is wanted, from a byte x on; what stands after the character has the same answer by both
+-- after c, b, a, where no continuation byte is wanted, from a byte x on; what stands after the character has the same answer by both
 module _ (c b a x : ℕ) (r : List ℕ) (ha : a < 0xC0) (hb : b < 0xE0) (hc : c < 0xF0)
     (past : (m c b a : ℕ) → 0 < m → a < 0xC0 → b < 0xE0 → c < 0xF0 → clean c b a (drop m (x ∷ r)) ≡ isUtf8 (drop m (x ∷ r)))
   where
@@ -315,7 +315,7 @@ clean-within (suc k) (x ∷ r) h =
     λ c b a ha hb hc.
     by-char c b a x r ha hb hc (λ m c b a p. clean-within k (drop m (x ∷ r)) (omega (arith, length-drop m (x ∷ r))) c b a)
 
--- after three bytes that want no continuation the two tests have one answer
+-- after three bytes that want no continuation byte the two tests have one answer
 pub clean-utf8 : (s : List ℕ) (c b a : ℕ) → a < 0xC0 → b < 0xE0 → c < 0xF0 → clean c b a s ≡ isUtf8 s
 clean-utf8 s = clean-within (length s) s (omega arith)
 

@@ -53,7 +53,7 @@ never-is x =
     other : x ≤ 0xF4 → (x / 2 ≡ 0x60 → ⊥) → eqb (x / 2) 0x60 || ltb 0xF4 x ≡ false
     other k n = simp (le-ltb 0xF4 x k, ne-eqb (x / 2) 0x60 n)
 
--- a continuation is below n + 1 or above n
+-- a continuation byte is below n + 1 or above n
 above-not : (n x : ℕ) → ltb n x ≡ not (ltb x (n + 1))
 above-not n x = by-lt n x (λ h. rw (lt-ltb n x h, le-ltb x (n + 1) (omega arith))) (λ h. rw (le-ltb n x h, lt-ltb x (n + 1) (omega arith)))
 
