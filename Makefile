@@ -1,5 +1,5 @@
 # make: the library as a C or Rust program takes it: dist/libkeybasket.a and dist/keybasket.h, proved first; and the program dist/keybasket.
-# make install PREFIX=..: the same under PREFIX (DESTDIR is put before it), with a pkg-config file and the program's manual page.
+# make install PREFIX=..: what make has built, copied under PREFIX (DESTDIR is put before it), with a pkg-config file and the program's manual page.
 # make test: all tests. make bench: our time beside the Rust's.
 .PHONY: all lib install test bench clean
 
@@ -19,7 +19,8 @@ lib:
 	cp target/staticlib/libc_api.a dist/libkeybasket.a
 	cp include/keybasket.h dist/keybasket.h
 
-install: all
+install:
+	@test -x dist/keybasket || { echo "make install copies what make has built: run make first" >&2; exit 1; }
 	sed -e 's|@prefix@|$(prefix)|' -e 's|@version@|$(VERSION)|' include/keybasket.pc.in > dist/keybasket.pc
 	install -d $(to)/bin $(to)/include $(to)/lib/pkgconfig $(to)/share/man/man1
 	install -m 755 dist/keybasket $(to)/bin/keybasket

@@ -146,17 +146,17 @@ static inline const char *keybasket_refusal_name(uint64_t number)
 /*
  * The calls. Each takes a text of text_len bytes, or a name of name_len, and never changes it. Every text and every name is taken, of any bytes
  * and any length: it need not be UTF-8, it may hold zero bytes, and no zero byte ends it or what is written. So is every code: an unknown one
- * is refused.
+ * is refused. The text is the literal alone: a blank or a line end before or after it is part of the text, and such a text is refused.
  *
  * The caller sees to it that
  * - text points to text_len readable bytes, name to name_len readable bytes, out to out_len writable bytes, value to one uint64_t, and numbers
  *   to KEYBASKET_NUMBERS of them;
- * - all of that memory has been given a value before the call;
+ * - all of that memory is initialised before the call, also out, numbers and *value (`= {0}` will do);
  * - what is read and what is written do not overlap;
  * - no pointer is null, not even at length 0;
  * - no other thread writes any of it, or reads what is written, during the call.
  *
- * Nothing is allocated, and nothing is kept from one call to the next.
+ * Nothing is allocated, and nothing is kept from one call to the next. Calls may run in several threads at once.
  */
 
 /*
@@ -189,9 +189,9 @@ void keybasket_read(uint64_t entry, const uint8_t *text, size_t text_len, uint64
 /*
  * Reads a text as an integer, as keybasket_read does by KEYBASKET_INTEGER, and writes its number to *value where it is at most the largest
  * value of the type: 255 for KEYBASKET_U8, 127 for KEYBASKET_I8. There are no negative numbers. The text's suffix is read, but it names no
- * type here.
+ * type here. There is no call for a float's number: its settled form is exact.
  *
- * Returns 0, or KEYBASKET_REFUSED plus the refusal number; *value is then unchanged. Refusal numbers: 1 to 41, 42 for a type code other than 1
+ * Returns 0. Or returns KEYBASKET_REFUSED plus the refusal number; *value is then unchanged. Refusal numbers: 1 to 41, 42 for a type code other than 1
  * to 4 and 7 to 10, 43, 44, and 45 for a number above the type's largest. The span of 1 to 41 is what keybasket_read writes by
  * KEYBASKET_INTEGER.
  */
@@ -208,8 +208,9 @@ size_t keybasket_value(uint64_t type, const uint8_t *text, size_t text_len, uint
 size_t keybasket_decode(uint64_t entry, const uint8_t *text, size_t text_len, uint8_t *out, size_t out_len);
 
 /*
- * Settles a text: reads it as any literal and writes the literal's settled form to the front of out, a buffer of out_len bytes. No closing
- * zero byte is written. out_len = KEYBASKET_LONGEST is always enough; text_len is not, since a form can be longer than its text.
+ * Settles a text: reads it as any literal and writes the literal's settled form to the front of out, a buffer of out_len bytes. The form of
+ * an integer is its decimal number; that of a float is m, `e`, k for the number m times 10^k, where m does not end in 0 (k is the reduced
+ * power of ten; zero is `0e0`); that of a quoted literal is never raw. The suffix follows unchanged. No closing zero byte is written. out_len = KEYBASKET_LONGEST is always enough; text_len is not, since a form can be longer than its text.
  *
  * Returns the form's length, which is at most out_len; the bytes of out after the form are unchanged. Or returns KEYBASKET_REFUSED plus the
  * refusal number; all of out is then unchanged. Refusal numbers: 1 to 41, 43, 44, 45 for an integer above 2^64 - 1, 46 for a float whose

@@ -28,18 +28,18 @@ use Rattle.settle.proofs.Forms.{no-form, same-form}
 no-written {ℓ} : {A : Type ℓ} {n m : ℕ} {p : Place} → refusal m p ≡ written n → A
 no-written e = let z : _≡_ {A = ℕ} 0 1 = cc in absurd (omega arith)
 
-pub decoded-fits : (code : ℕ) (s : List ℕ) (have : ℕ) {n : ℕ} → decodeAt code s have ≡ written n → n ≤ have
+pub decoded-fits : (code : ℕ) (s : List ℕ) (room : ℕ) {n : ℕ} → decodeAt code s room ≡ written n → n ≤ room
 unfolding decodeAt checkedDecode stringDecoded
-decoded-fits code s have {n} = by-kind (kindCoded code)
+decoded-fits code s room {n} = by-kind (kindCoded code)
   where
     P : Decode → Type 0
-    P d = d ≡ written n → n ≤ have
+    P d = d ≡ written n → n ≤ room
 
-    by-reading : (o : Outcome) (v : List ℕ) → P (ofReading o v have)
+    by-reading : (o : Outcome) (v : List ℕ) → P (ofReading o v room)
     by-reading (refused m p) v = no-written
-    by-reading (accepted k e vs) v = cond-in P (leb (length v) have) (λ t e. let z : length v ≡ n = cc in omega (arith, leb-true (length v) have t)) (λ t. no-written)
+    by-reading (accepted k e vs) v = cond-in P (leb (length v) room) (λ t e. let z : length v ≡ n = cc in omega (arith, leb-true (length v) room t)) (λ t. no-written)
 
-    by-kind : (f : KindFound) → P (decodeBy f s have)
+    by-kind : (f : KindFound) → P (decodeBy f s room)
     by-kind (found.Kind k) = cond-in P (eqb (textFault s) 0) (λ t. by-reading (stringRead k s) (stringValue k s)) (λ t. no-written)
     by-kind found.Nothing = no-written
 
@@ -47,31 +47,31 @@ decoded-fits code s have {n} = by-kind (kindCoded code)
 
 -- a form that was written has the length that is told, and fits
 abbrev RefusedWithin : ℕ → List ℕ → settled.FormAnswer → ℕ → ℕ → Type 0
-RefusedWithin have form a k n = a ≡ settled.formed k n → (n ≤ have) × (n ≡ length form)
+RefusedWithin room form a k n = a ≡ settled.formed k n → (n ≤ room) × (n ≡ length form)
 
-settled-told : (s : List ℕ) (have k n : ℕ) → RefusedWithin have (settled.formAt s) (settled.settleAt s have) k n
+settled-told : (s : List ℕ) (room k n : ℕ) → RefusedWithin room (settled.formAt s) (settled.settleAt s room) k n
 unfolding settled.settleAt settled.measureAt settled.measured settled.formAt
-settled-told s have k n = by-reading (readAt 0 s)
+settled-told s room k n = by-reading (readAt 0 s)
   where
-    by-reading : (o : Outcome) → RefusedWithin have (settled.formBy s o) (settled.fitted have (settled.measureOf s o)) k n
+    by-reading : (o : Outcome) → RefusedWithin room (settled.formBy s o) (settled.fitted room (settled.measureOf s o)) k n
     by-reading (refused m p) = no-form
     by-reading (accepted kind e vs) =
         cond-in P (eqb (faultOf (worthOf kind s vs)) 0)
         (λ _. cond-in P (leb (length f) 65536)
-        (λ _. cond-in Q (leb (length f) have) (λ t (z : settled.formed kind (length f) ≡ settled.formed k n). let g = same-form z .1 in (omega (arith, g, leb-true (length f) have t), sym g)) (λ _. no-form)) (λ _. no-form))
+        (λ _. cond-in Q (leb (length f) room) (λ t (z : settled.formed kind (length f) ≡ settled.formed k n). let g = same-form z .1 in (omega (arith, g, leb-true (length f) room t), sym g)) (λ _. no-form)) (λ _. no-form))
         (λ _. no-form)
       where
         f : List ℕ
         f = settled.formBy s (accepted kind e vs)
 
         Q : settled.FormAnswer → Type 0
-        Q a = RefusedWithin have f a k n
+        Q a = RefusedWithin room f a k n
 
         P : settled.FormAnswer → Type 0
-        P a = Q (settled.fitted have a)
+        P a = Q (settled.fitted room a)
 
-pub settled-fits : (s : List ℕ) (have : ℕ) {k n : ℕ} → settled.settleAt s have ≡ settled.formed k n → n ≤ have
-settled-fits s have {k} {n} e = settled-told s have k n e .0
+pub settled-fits : (s : List ℕ) (room : ℕ) {k n : ℕ} → settled.settleAt s room ≡ settled.formed k n → n ≤ room
+settled-fits s room {k} {n} e = settled-told s room k n e .0
 
 -- the form is what was written
 pub form-written : (s buf : List ℕ) {k n : ℕ} → settled.settleAt s (length buf) ≡ settled.formed k n → take n (settled.settleBuffer s buf) ≡ settled.formAt s

@@ -74,16 +74,16 @@ operationBuffer letter code text buf =
     (cond (eqb letter 83) (settled.settleBuffer text buf)
     buf)
 
--- ---- a record, whose lent buffer has `have` bytes
+-- ---- a record, whose lent buffer has `room` bytes
 
 -- "The lent buffer is filled with byte 165 before each call"
 abbrev pub filled : ℕ → List ℕ
-filled have = replicate have 165
+filled room = replicate room 165
 
 -- "one line for each"
 -- 10 is LF
 unfoldable pub recordLine : ℕ → ℕ → List ℕ → ℕ → List ℕ
-recordLine letter code text have = operationLine letter code text (filled have) ++ (10 ∷ [])
+recordLine letter code text room = operationLine letter code text (filled room) ++ (10 ∷ [])
 
 unfoldable pub recordBuffer : ℕ → ℕ → List ℕ → ℕ → List ℕ
-recordBuffer letter code text have = operationBuffer letter code text (filled have)
+recordBuffer letter code text room = operationBuffer letter code text (filled room)

@@ -14,6 +14,7 @@ use Rattle.escape.specs.declared.Allowed.{Allowed}
 use Rattle.escape.specs.declared.Unescaped.{Unescaped}
 
 -- a byte that stands for itself: no backslash, quote or CR, and no NUL or byte above 127 where the kind has none
+-- 92 is `\`, 34 is `"`, 13 is CR
 pub record Char (k : Allowed) (b : ℕ) : Type 0 where
   pub backslash : b ≡ 92 → ⊥
   pub quote : b ≡ 34 → ⊥

@@ -65,7 +65,7 @@ lineBreakOf s =
 unfoldable pub backslashOf : Allowed → List ℕ → Next
 backslashOf k s = cond (eqb (getD s 1 0) 10) (lineBreakOf (drop 2 s)) (ofEscape (escapeOf k (front s)))
 
--- the arms for any other byte, in their order: CR is 37, a quote closes, NUL is 36 and a byte above 127 is 25 where the kind has none
+-- the arms for any other byte, in their order: CR is refused with 37, a quote closes, NUL is refused with 36 and a byte above 127 with 25 where the kind has none
 -- 13 is CR, 34 is `"`
 unfoldable pub plainOf : Allowed → ℕ → Next
 plainOf k b =

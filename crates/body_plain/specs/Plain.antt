@@ -6,7 +6,7 @@ use lib.Dec.{eqb, ltb}
 use Rattle.escape.specs.Allows.{unicode, allowNul}
 use Rattle.escape.specs.declared.Allowed.{Allowed}
 
--- the last arm of `unescape_string`'s loop, `_ => i += 1`: a byte that stands for itself (`body`, proofs/Runs: so it does in a quoted and in a raw body)
+-- the last arm of `unescape_string`'s loop, `_ => i += 1`: a byte that stands for itself (in a quoted body: `body`, proofs/Runs; in a raw one: law `raw-plain-step` of `raw`)
 -- 92 is `\`, 13 is CR, 34 is `"`
 unfoldable pub plainByte : Allowed → ℕ → Bool
 plainByte k b =

@@ -107,7 +107,7 @@ fn is_plain_in_all(b: u8) -> bool
     (b != b'\\') & (b != b'"') & ((b != b'\r') & (b != 0))
 }
 
-// Whether the two bytes at an offset surely stand for themselves.
+// Whether the two bytes at an offset are such bytes.
 fn two_plain_in_all(s: &[u8], at: usize) -> bool
     requires { ⌜ at + 2 ≤ length (now s) ⌝ }
     ensures { λ r. ⌜ r ≡ allIn plainInAll at 2 (now (s .entry)) ⌝ }
@@ -115,7 +115,7 @@ fn two_plain_in_all(s: &[u8], at: usize) -> bool
     is_plain_in_all(s[at]) & is_plain_in_all(s[at + 1])
 }
 
-// Whether the eight bytes at an offset do.
+// Whether the eight bytes at an offset are such bytes.
 fn eight_plain_in_all(s: &[u8], at: usize) -> bool
     requires { ⌜ at + 8 ≤ length (now s) ⌝ }
     ensures { λ r. ⌜ r ≡ allIn plainInAll at 8 (now (s .entry)) ⌝ }
@@ -125,7 +125,7 @@ fn eight_plain_in_all(s: &[u8], at: usize) -> bool
         & (two_plain_in_all(s, at + 4) & two_plain_in_all(s, at + 6))
 }
 
-// Whether the eight bytes at an offset surely stand for themselves in a kind of body: without characters above 127 they are ASCII, too.
+// Whether the eight bytes at an offset stand for themselves in a kind of body: without characters above 127 they are ASCII, too.
 fn eight_plain(s: &[u8], at: usize, k: Allowed) -> bool
     requires { ⌜ at + 8 ≤ length (now s) ⌝ }
     ensures { λ r. ⌜ r ≡ eightPlain k at (now (s .entry)) ⌝ }

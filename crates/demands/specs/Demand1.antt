@@ -1,18 +1,21 @@
--- How to read these pages. Texts, forms and buffers are lists of bytes, and ℕ has the numbers from 0 on. After `--` stands what is for the reader alone.
+-- How to read these pages. Texts, forms and buffers are lists of bytes; ℕ are the numbers from 0 on. Text after `--` is a comment.
+--   f x y             the function f of x and y, in C f(x, y); `f (refused n p) = ..` is its value in that case. `data` lists all cases
 --   (x : A) → P       for every x of A, P holds; so too {x : A} → P, where x need not be named at a use
 --   (x : A) × P       there is an x of A with P
 --   P × Q, P ⊎ Q      P and Q; P or Q
 --   P → Q, P ↔ Q      if P, then Q; P exactly when Q
 --   P → ⊥, a ≡ b      not P; a and b are equal
---   a ∷ s, []         the list s with a in front; the empty list. p .0, p .1 are the parts of a pair, d .base is the line `base` of a record; λ v. e takes v to e
---   T b, cond b x y   the test b is true; x where the test b is true, else y
---   A record holds when all its lines hold. `use` says in which crate and file the other names are defined.
---   "Assumes nothing" means: uses no unproved axiom.
+--   a ∷ s, []         the list s with a in front; the empty list. (a, b) is a pair, p .0 and p .1 are its parts, d .base is a record's field `base`
+--   T b, cond b x y   the test b is true; x where the test b is true, else y. λ v. e is the function that takes v to e
+--   length s, drop n s, part a z s, over v buf   how many bytes; all but the first n; the bytes from a to z; v, and after it what buf held there
+--   A record holds when all its fields hold. `use` says in which crate and file the other names are defined; with `as`, under which name before a dot.
+--   "Assumes nothing" means: uses no unproved axiom. `pub`, `abbrev`, `unfoldable` and `Type 0` may be skipped.
 --
 -- Demand 1: "Every call comes to an end for all bytes a club can type or send: with an answer, or with a refusal number and its span as
 -- document 01 gives them; with the text it was handed untouched; and, if refused, with the output buffer exactly as it came."
 --
--- The calls, with the contracts that are proved of their code. None has a `requires`: any code and any bytes may be handed in.
+-- The calls, with the contracts that are proved of their code. None has a `requires`: any code and any bytes may be handed in. r is what the function
+-- returns; `outcomeOf r`, `valuedOf r`, `decodedOf r` and `settledOf r` are the same in 01's numbers.
 --   literal::read                 outcomeOf r ≡ readAt code text
 --   literal::value                valuedOf r ≡ valueAt code text
 --   literal::decode               decodedOf r ≡ decodeAt code text (length of out at entry), and out at exit ≡ decodeBuffer code text (out at entry)
@@ -21,13 +24,13 @@
 --   settle::measure               settledOf r ≡ measureAt text
 --   settle::settle                settledOf r ≡ settleAt text (length of out at entry), and out at exit ≡ settleBuffer text (out at entry)
 -- and the entries for C, with out at exit as above:
---   c_api::keybasket_read          answer at exit ≡ readingNumbers (readAt entry text)
+--   c_api::keybasket_read          the five numbers at exit ≡ readingNumbers (readAt entry text)
 --   c_api::keybasket_value         r ≡ returnValue (λ v. 0) (valueAt ty text), and value at exit ≡ valueAfter (valueAt ty text) (value at entry)
 --   c_api::keybasket_decode        r ≡ returnValue (λ n. n) (decodeAt entry text (length of out at entry))
 --   c_api::keybasket_settle        r ≡ returnValue (λ form. form .1) (settleAt text (length of out at entry))
 --   c_api::keybasket_integer_from_suffix  r ≡ integerFromSuffix name
 --   c_api::keybasket_float_from_suffix    r ≡ floatFromSuffix name
--- "comes to an end": a contract is proved only of code that ends. "with the text untouched": the text is a shared slice, and the last clause of
+-- "comes to an end": a contract is proved only of code that ends. "with the text it was handed untouched": the text is a shared slice, and the last clause of
 -- each contract says that at exit it is what it was at entry. The rest is said below, of the definitions that the contracts cite.
 -- Assumes nothing.
 use Prim.Native.Nat.{ℕ, _+_, _^_, _≤_, _<_}
@@ -80,7 +83,7 @@ abbrev pub Answered : ℕ → Outcome → Type 0
 Answered m (accepted k e vs) = (1 ≤ k) × (k ≤ 8) × (e ≤ m) × NoLonger m vs
 Answered m (refused n p) = Numbered m (42 ∷ 43 ∷ 44 ∷ []) n p
 
--- reading returns an answer for every code and every text, and is refused exactly so, in this order
+-- reading returns an answer for every code and every text, and is refused in exactly these cases, tested in this order. (Which span a refusal has: Demand2.)
 pub record ReadAnswers : Type 0 where
   pub answered : (code : ℕ) (s : List ℕ) → Answered (length s) (readAt code s)
   pub bad-code : (code : ℕ) (s : List ℕ) → 8 < code → readAt code s ≡ refused 42 none
@@ -107,7 +110,7 @@ pub data ValueType : ℕ → ℕ → Type 0 where
   i32 : ValueType 9 0x7FFFFFFF
   i64 : ValueType 10 0x7FFFFFFFFFFFFFFF
 
--- the value call likewise: every other code is refused with 42, and a number with 45 exactly where it is above the type's largest value
+-- the value call, in the same order: every other code is refused with 42, and a number with 45 exactly where it is above the type's largest value
 pub record ValueAnswers : Type 0 where
   pub answered : (code : ℕ) (s : List ℕ) → ValueAnswered (length s) (valueAt code s)
   pub bad-code : (code : ℕ) (s : List ℕ) → ((largest : ℕ) → ValueType code largest → ⊥) → valueAt code s ≡ refusal 42 none
@@ -132,7 +135,7 @@ abbrev pub DecodeAnswered : ℕ → ℕ → Answer ℕ → Type 0
 DecodeAnswered m room (returned n) = (n ≤ room) × (n ≤ m) × (n ≤ 65536)
 DecodeAnswered m room (refusal n p) = Numbered m (42 ∷ 43 ∷ 44 ∷ 48 ∷ []) n p
 
--- decoding likewise: it is refused with 48 exactly where the buffer is shorter than the value, after everything that a reading can refuse
+-- decoding, in the same order: it is refused with 48 exactly where the buffer is shorter than the value, after everything that a reading can refuse
 pub record DecodeAnswers : Type 0 where
   pub answered : (code room : ℕ) (s : List ℕ) → DecodeAnswered (length s) room (decodeAt code s room)
   pub bad-code : (code room : ℕ) (s : List ℕ) → (Decodes code → ⊥) → decodeAt code s room ≡ refusal 42 none
@@ -168,7 +171,7 @@ abbrev pub floatName : FloatType → List ℕ
 floatName F32 = bytes "f32"
 floatName F64 = bytes "f64"
 
--- both from_suffix return for every name the code of the type that has it, and 0 "to every other name, of any bytes and length"
+-- both from_suffix return the code of the type that a name stands for; 01: "each answers 0 to every other name, of any bytes and length"
 pub record SuffixAnswers : Type 0 where
   pub integer : (t : IntegerType) → integerFromSuffix (integerName t) ≡ integerCode t
   pub no-integer : (name : List ℕ) → ((t : IntegerType) → name ≡ integerName t → ⊥) → integerFromSuffix name ≡ 0
@@ -206,7 +209,8 @@ pub record SpanAnswers : Type 0 where
   pub read : (code : ℕ) (s : List ℕ) {n : ℕ} {p : Place} → readAt code s ≡ refused n p → 42 ≤ n → p ≡ none
 
 -- the entries for C say the same in numbers. A reading's first number is its kind, or 0 where it is refused; a length, which is at most 65,536
--- (`DecodeAnswers`, `SettleAnswers`), stands for itself, a refusal is 100,000 and its number; a value that is refused is left as it was
+-- (`DecodeAnswers`, `SettleAnswers`), stands for itself, a refusal is 100,000 plus its number; a value that is refused is left as it was. `valueNumbers` and `placeNumbers` are the
+-- columns [2] to [4] of the table in include/keybasket.h
 pub record NumberAnswers : Type 0 where
   pub reading : (code : ℕ) (s : List ℕ) {k e : ℕ} {vs : Values} → readAt code s ≡ accepted k e vs
       → readingNumbers (readAt code s) ≡ k ∷ e ∷ valueNumbers vs

@@ -73,13 +73,15 @@ pub record Demand2Transcribed : Type 0 where
   pub answers : (s : List ℕ) → Readable s → AsTranscribed s
   pub readings : (s : List ℕ) (code k e : ℕ) (vs : Values) → readAt code s ≡ accepted k e vs → SoundReading s code k e vs
 
--- Part two, the Reference's. `Means s w x` (crate grammar) says that by the two chapters the text s has the worth w and the suffix x.
+-- Part two, the Reference's. `Means s w x` (crate grammar) says that by the two chapters the text s has the worth w and the suffix x. A worth is a kind
+-- with its exact value: `worth.integer 31`. The one departure that 01 names stands in grammar/specs/Suffixes, at XID-START and XID-CONTINUE.
 
 -- entry 0 takes every kind, each other entry its own
 abbrev pub Takes : ℕ → ℕ → Type 0
 Takes code k = (code ≡ 0) ⊎ (code ≡ k)
 
--- an integer's reading: its base and both ends of its digits mark the number n, and the value call gives it at each type, or 45 where it does not fit
+-- an integer's reading: its base and its digits give the number n, and the value call returns it at each type, or is refused with 45 where it is above
+-- the largest (`bounded`)
 pub record GivesInteger (s : List ℕ) (vs : Values) (n : ℕ) : Type 0 where
   pub marks : IntegerValues
   pub values : vs ≡ digits marks
@@ -87,7 +89,8 @@ pub record GivesInteger (s : List ℕ) (vs : Values) (n : ℕ) : Type 0 where
   pub number : numberIn (marks .base) (part (marks .start) (marks .end) s) ≡ n
   pub at-each-type : (code largest : ℕ) → ValueType code largest → valueAt code s ≡ bounded largest n
 
--- a float's reading: the digits up to the first end, those after a period up to the second, and the exponent after an `e` up to the third
+-- a float's reading: the digits up to the first end, those after a period up to the second, and the exponent after an `e` up to the third.
+-- `powered w f e` is the number w.f times ten to the power e
 pub record GivesFloat (s : List ℕ) (vs : Values) (d : Decimal) : Type 0 where
   pub marks : FloatValues
   pub values : vs ≡ ends marks
@@ -101,7 +104,7 @@ pub record GivesBytes (code : ℕ) (s : List ℕ) (vs : Values) (v : List ℕ) :
   pub count : (buf : List ℕ) → length v ≤ length buf → decodeAt code s (length buf) ≡ written (length v)
   pub bytes : (buf : List ℕ) → length v ≤ length buf → decodeBuffer code s buf ≡ over v buf
 
--- what the calls give of a text, whose reading has the values vs, is the worth
+-- what the calls give for a text, whose reading has the values vs, is the worth
 abbrev pub Gives : List ℕ → Values → Worth → Type 0
 Gives s vs (worth.bool b) = vs ≡ truth b
 Gives s vs (worth.integer n) = GivesInteger s vs n

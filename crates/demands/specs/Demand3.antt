@@ -7,7 +7,7 @@
 -- The contract of the settling call `settle::settle`: settledOf r ≡ settleAt text (length of out at entry), and out at exit ≡ settleBuffer text (out
 -- at entry). That of `settle::measure`: settledOf r ≡ measureAt text. 01: "accepted" and "read again" speak of entry 0, "given" and "withheld" of the
 -- settling call. Kind, exact value and suffix are those of `Means` (Demand2): the worth w and the suffix x; `SameWorth` is the same kind and the
--- same exact value, of floats by 01's sentence.
+-- same exact value; two floats are equal, as 01 says, "when one power of ten makes both whole and the two whole numbers agree".
 -- Assumes nothing.
 use Prim.Native.Nat.{ℕ, _<_}
 use mathlib.Core.Path.{_≡_}
@@ -78,7 +78,7 @@ pub record InOrder : Type 0 where
       → settleAt s room ≡ refusal 47 none
   pub too-small : (s x : List ℕ) (k room : ℕ) (w : Worth) → Accepts s k → Means s w x → (TooLarge w → ⊥) → (PowerTooFar w → ⊥) → (TooLong w x → ⊥)
       → TooSmall w x room → settleAt s room ≡ refusal 48 none
-  -- the measure says the same without a buffer: the form's kind and length, or 45, 46 or 47
+  -- the measure says the same without a buffer: the form's kind and length, or what refuses the text, 45, 46 or 47
   pub measure : (s buf f : List ℕ) (k : ℕ) → Given s buf k f → measureAt s ≡ formed k (length f)
   pub no-measure : (s : List ℕ) (n : ℕ) (p : Place) → measureAt s ≡ refusal n p → (room : ℕ) → settleAt s room ≡ refusal n p
 

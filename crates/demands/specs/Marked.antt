@@ -1,4 +1,4 @@
--- The marked texts (★) of document 01, by entry 0 and by settling, jointly. `bytes` is a text's UTF-8.
+-- The marked texts (★) of document 01, by entry 0 and by settling, in one theorem. `bytes` is a text's UTF-8.
 -- Assumes nothing.
 use mathlib.Core.Path.{_≡_}
 use mathlib.Core.List.{List}
@@ -15,7 +15,7 @@ pub record MarkedReadings : Type 0 where
   pub no-digits : readAt 0 (bytes "0x") ≡ refused 6 (between 2 2)
   pub lone-backslash : readAt 0 (bytes "\"\\\"") ≡ refused 9 (between 1 2)
   pub three-quotes : readAt 0 (bytes "'''") ≡ refused 26 (between 1 2)
-  -- the slip that is kept
+  -- litrs's wrong span, kept on purpose (docs/DIFFERENCES.md)
   pub starting-with-e : readAt 0 (bytes "0b1e") ≡ refused 41 (between 1 2)
   pub cut-escape : readAt 0 (bytes "\"\\x4\"") ≡ refused 9 (between 1 4)
   pub cut-escape-suffixed : readAt 0 (bytes "\"\\x4\"u") ≡ refused 10 (between 1 5)

@@ -10,6 +10,7 @@ use Rattle.scan.specs.Run.{run}
 use Rattle.parse.specs.Sets.{digit, decDigit, startsE}
 
 -- 01, Floats: "Entry 0 picks float when the first byte after the leading digits and `_` is `.`, `e` or `E`."
+-- 46 is `.`
 unfoldable pub startsFloat : List ℕ → Bool
 startsFloat s = eqb (getD s (run (digit 10) s) 0) 46 || startsE s (run (digit 10) s)
 

@@ -52,7 +52,7 @@ pub data Values : Type 0 where
   value : ℕ → Values
   decoded : StringValues → Values
 
--- A reading, in document 01's sense: "kind, start of suffix, and" its values; "it is accepted or refused", with a
+-- A reading, in document 01's sense: "kind, start of suffix, and" its values; "It is accepted or refused", with a
 -- refusal's number and span.
 pub data Outcome : Type 0 where
   refused : ℕ → Place → Outcome

@@ -59,7 +59,7 @@ simpleEscapeOf b =
 
 -- ---- `\x`
 
--- a value above 7F where the kind has no byte escapes is 11, then 0 where it has no NUL is 35
+-- a value above 7F where the kind has no byte escapes is refused with 11, then 0 where it has no NUL with 35
 unfoldable pub xByte : Allowed → ℕ → Escaped
 xByte k v =
     cond (not (byteEscapes k) && ltb 127 v) (bad 11 (between 0 4))
@@ -67,7 +67,7 @@ xByte k v =
     (value (Byte v) 4))
 
 -- 01, Escapes: "`\x` wants two bytes that end on a character boundary, else 9 to the end of what it was given"; a byte that is no hex
--- digit is 10
+-- digit is refused with 10
 unfoldable pub xEscape : Allowed → List ℕ → Escaped
 xEscape k s =
     cond (isBoundary s 4)
@@ -83,7 +83,7 @@ pub data Hex : Type 0 where
   number : ℕ → Hex
   fault : ℕ → ℕ → Hex
 
--- the loop over `inner`, at offset i and after n digits worth v: `_` is passed over, no hex digit is 15, a seventh digit is 16
+-- the loop over `inner`, at offset i and after n digits worth v: `_` is passed over, no hex digit is refused with 15, a seventh digit with 16
 -- 95 is `_`
 abbrev pub hexFrom : ℕ → ℕ → ℕ → List ℕ → Hex
 hexFrom i n v [] = number v
@@ -98,7 +98,7 @@ hexFrom i n v (b ∷ s) =
 unfoldable pub isScalar : ℕ → Bool
 isScalar v = ltb v 0xD800 || (leb 0xE000 v && ltb v 0x110000)
 
--- the end of the arm, for an escape of n bytes: 0 where the kind has no NUL is 35, then no scalar value is 17
+-- the end of the arm, for an escape of n bytes: 0 where the kind has no NUL is refused with 35, then a number that is no scalar value with 17
 unfoldable pub uScalar : Allowed → ℕ → ℕ → Escaped
 uScalar k n v =
     cond (not (allowNul k) && eqb v 0) (bad 35 (between 0 n))
@@ -119,7 +119,7 @@ badStart (b ∷ d) = eqb b 95
 unfoldable pub uInner : Allowed → List ℕ → Escaped
 uInner k d = cond (badStart d) (bad 13 (between 3 4)) (uHex k (length d + 4) (hexFrom 0 0 0 d))
 
--- after `\u{`, with n bytes before the first `}`: none to the end is 18
+-- after `\u{`, with n bytes before the first `}`: none to the end is refused with 18
 unfoldable pub uBraced : Allowed → List ℕ → ℕ → Escaped
 uBraced k s n =
     cond (eqb (n + 3) (length s)) (bad 18 (between 0 (length s)))
@@ -137,7 +137,7 @@ uEscape k s =
 
 -- ---- one escape
 
--- `match first`, where the second byte is b: a letter, `0` (35 where the kind has no NUL), `x`, `u`; any other is 8
+-- `match first`, where the second byte is b: a letter, `0` (refused with 35 where the kind has no NUL), `x`, `u`; any other is refused with 8
 -- 48 is `0`, 120 is `x`, 117 is `u`
 unfoldable pub escapeBy : Allowed → ℕ → List ℕ → Escaped
 escapeBy k b s =
@@ -148,6 +148,6 @@ escapeBy k b s =
     (bad 8 (between 0 2)))))
     (value (Byte (simpleEscapeOf b)) 2)
 
--- litrs's `unescape`: no second byte is 9. The first byte is not looked at: it is a backslash wherever this is used.
+-- litrs's `unescape`: no second byte is refused with 9. The first byte is not looked at: it is a backslash wherever this is used.
 unfoldable pub escapeOf : Allowed → List ℕ → Escaped
 escapeOf k s = cond (ltb (length s) 2) (bad 9 (between 0 1)) (escapeBy k (getD s 1 0) s)

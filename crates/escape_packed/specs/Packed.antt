@@ -23,7 +23,7 @@ abbrev pub packedEscape : Escaped → ℕ
 packedEscape (value u n) = packedPiece n u
 packedEscape (bad num p) = 0
 
--- how many bytes a coded piece has
+-- how many bytes a packed piece has
 unfoldable pub packedLen : ℕ → ℕ
 packedLen c = c / 4294967296
 
@@ -31,6 +31,6 @@ packedLen c = c / 4294967296
 unfoldable pub unescapedBy : ℕ → Unescaped
 unescapedBy v = cond (eqb v 0) Nothing (cond (ltb v 257) (Byte (v - 1)) (Unicode (v - 257)))
 
--- what a coded piece stands for
+-- what a packed piece stands for
 unfoldable pub packedValue : ℕ → Unescaped
 packedValue c = unescapedBy (c % 4294967296)

@@ -8,7 +8,7 @@ ghost use lib.ListN.{length};
 ghost use Rattle.escape.specs.Escape.{xEscape, uScalar, uEscape, escapeOf};
 ghost use Rattle.escape_packed.specs.Packed.{packedPiece, packedEscape, packedLen, packedValue};
 
-// The code of a piece is its length times this, and a smaller number for what it stands for.
+// The packed number of a piece is its length times this, and a smaller number for what it stands for.
 const LEN_UNIT: u64 = 4294967296;
 
 // A dropped line break of n bytes, which stands for nothing, as one number.
@@ -140,14 +140,14 @@ pub fn packed(s: &[u8], k: Allowed) -> u64
     0
 }
 
-// How many bytes a coded piece has.
+// How many bytes a packed piece has.
 pub fn packed_len(c: u64) -> usize
     ensures { λ r. ⌜ r ≡ packedLen c ⌝ }
 {
     (c / LEN_UNIT) as usize
 }
 
-// What a coded piece stands for.
+// What a packed piece stands for.
 pub fn packed_value(c: u64) -> Unescaped
     ensures { λ r. ⌜ r ≡ packedValue c ⌝ }
 {

@@ -1,1 +1,1 @@
-pub mod Sure
+pub mod ByBound

@@ -6,8 +6,8 @@ ghost use Rattle.literal.specs.Readings.{readAt};
 ghost use Rattle.form_bound.specs.Bound.{boundFits, fitsByBound};
 
 // Whether a value of so many bytes, each at most four in a form, fits with the suffix after it.
-fn bound_fits(value_len: usize, rest: usize, have: usize) -> bool
-    ensures { λ r. ⌜ r ≡ boundFits «value_len» rest have ⌝ }
+fn bound_fits(value_len: usize, rest: usize, room: usize) -> bool
+    ensures { λ r. ⌜ r ≡ boundFits «value_len» rest room ⌝ }
 {
     if err::MAX_LEN < value_len {
         return false;
@@ -19,18 +19,18 @@ fn bound_fits(value_len: usize, rest: usize, have: usize) -> bool
     if err::MAX_LEN < n {
         return false;
     }
-    n <= have
+    n <= room
 }
 
 // Whether a string's form fits by the bound: then it need not be measured before it is written.
-pub fn fits_by_bound(text: &[u8], found: Reading, have: usize) -> bool
+pub fn fits_by_bound(text: &[u8], found: Reading, room: usize) -> bool
     requires { ⌜ outcomeOf found ≡ readAt 0 (now text) ⌝ }
-    ensures { λ r. ⌜ r ≡ fitsByBound (now (text .entry)) (outcomeOf found) have ⌝ }
+    ensures { λ r. ⌜ r ≡ fitsByBound (now (text .entry)) (outcomeOf found) room ⌝ }
 {
     match found {
-        Reading::String(lit) => bound_fits(lit.value_len, text.len() - lit.start_suffix, have),
-        Reading::ByteString(lit) => bound_fits(lit.value_len, text.len() - lit.start_suffix, have),
-        Reading::CString(lit) => bound_fits(lit.value_len, text.len() - lit.start_suffix, have),
+        Reading::String(lit) => bound_fits(lit.value_len, text.len() - lit.start_suffix, room),
+        Reading::ByteString(lit) => bound_fits(lit.value_len, text.len() - lit.start_suffix, room),
+        Reading::CString(lit) => bound_fits(lit.value_len, text.len() - lit.start_suffix, room),
         _ => false,
     }
 }

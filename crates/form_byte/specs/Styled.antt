@@ -30,13 +30,13 @@ abbrev pub extrasOf : Bool → ℕ → List ℕ → ℕ
 extrasOf verbatim q [] = 0
 extrasOf verbatim q (b ∷ v) = extraOf verbatim q b + extrasOf verbatim q v
 
--- ASCII that stands as itself where no letter escapes it: space to `~`
+-- ASCII that stands as itself where no letter escapes it: space (32) to `~` (126)
 unfoldable pub printable : ℕ → Bool
 printable b = leb 32 b && ltb b 127
 
 -- a byte that is its own form (`proofs/Styles` shows it): no control character, backslash or quote, and one above 127 only in a kind that
 -- lets it stand as itself
--- 92 is `\`
+-- 32 is space, 127 is DEL, 92 is `\`
 unfoldable pub itself : Bool → ℕ → ℕ → Bool
 itself verbatim q b =
     cond (ltb b 32) false

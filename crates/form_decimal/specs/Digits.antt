@@ -6,7 +6,7 @@ use Prim.Native.Nat.{ℕ, suc}
 use lib.Dec.{eqb, leb}
 use Rattle.parse.specs.Sets.{decDigit}
 
--- `1` to `9`
+-- `1` (49) to `9` (57)
 unfoldable pub significant : ℕ → Bool
 significant b = leb 49 b && leb b 57
 

@@ -42,7 +42,7 @@ FloatOf s l =
 unfoldable pub clamped : ℕ → ℕ
 clamped n = cond (leb n 2000000) n 2000001
 
--- 01: "It is 46 exactly when k is beyond 1,000,000 either way"
+-- the opposite of 01's "It is 46 exactly when k is beyond 1,000,000 either way"
 abbrev pub powerInRange : Decimal → Bool
 powerInRange d = leb (reduce d .up + reduce d .down) 1000000
 

@@ -11,6 +11,7 @@ use Rattle.form_float.specs.declared.FormLen.{FormLen}
 use Rattle.form_float.specs.declared.FormLen.the-variants as answer
 
 -- `e`, k
+-- 101 is `e`, 45 is `-`
 abbrev pub powerForm : Scaled → List ℕ
 powerForm r = 101 ∷ cond (r .negative) (45 ∷ decimal (r .power)) (decimal (r .power))
 

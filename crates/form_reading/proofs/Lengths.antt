@@ -69,7 +69,7 @@ module _ (m : ℕ) (x : List ℕ) where
       by-test true e = let z : _≡_ {A = ℕ} 0 1 = cc in absurd (omega arith)
       by-test false e = refl
 
--- the length of a float's form, as float_form returns it
+-- the length of a float's form, as form_float returns it
 abbrev pub bareIn : Length → BareLength
 bareIn (known n) = len n
 bareIn too-far = bad 46 none

@@ -39,7 +39,7 @@ abbrev pub bareFormBy : List ℕ → Outcome → List ℕ
 bareFormBy s (refused n p) = []
 bareFormBy s (accepted k e vs) = bareForm (worthOf k s vs) (drop e s)
 
--- a form is there, and a buffer of `have` bytes has room for the part before the suffix; serves contracts between functions
-pub record Roomy (s : List ℕ) (o : Outcome) (have : ℕ) : Type 0 where
+-- a form is there, and a buffer of `room` bytes has room for the part before the suffix; serves contracts between functions
+pub record Roomy (s : List ℕ) (o : Outcome) (room : ℕ) : Type 0 where
   pub form : bareBy s o ≡ len (length (bareFormBy s o))
-  pub room : length (bareFormBy s o) ≤ have
+  pub fits : length (bareFormBy s o) ≤ room

@@ -171,7 +171,7 @@ pub fn char_form_len(c: u32, style: Style) -> usize
     4 * n
 }
 
-// The bytes of a character's encoding, each as an escape.
+// The bytes of a character's encoding, each as the style writes it.
 fn put_encoded(out: &mut [u8], c: u32, style: Style) -> usize
     requires { ⌜ Scalar c × (length (styledForms (style .verbatim) (style .quote) (encode c)) ≤ length (now out)) ⌝ }
     ensures { λ r. ⌜ Wrote (styledForms (style .verbatim) (style .quote) (encode c)) r (now (out .entry)) (now (out .exit)) ⌝ }

@@ -17,6 +17,7 @@ use Rattle.integer_value.specs.declared.IntegerValue.{IntegerValue}
 use Rattle.integer_value.specs.declared.IntegerValue.the-variants as value
 
 -- the number that digits of a base write after a number n already read; `_` is passed over
+-- 95 is `_`
 abbrev pub numberFrom : ℕ → ℕ → List ℕ → ℕ
 numberFrom base n [] = n
 numberFrom base n (b ∷ s) = cond (eqb b 95) (numberFrom base n s) (numberFrom base (n * base + classOf b) s)

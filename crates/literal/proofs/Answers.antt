@@ -1,4 +1,4 @@
--- What reading by a code answers: 42, 43, 44, or the entry's own answer; and what holds of every accepted reading.
+-- What reading by a code returns: 42, 43, 44, or the entry's own answer; and what holds of every accepted reading.
 -- Assumes nothing.
 use mathlib.Core.Path.{_≡_}
 use mathlib.Core.List.{List}

@@ -69,7 +69,7 @@ readAt code s =
     (cond (eqb (textFault s) 0) (entryRead code s) (refused (textFault s) none))
     (refused 42 none)
 
--- ---- for contracts between functions, no sentence of a document; law `chosen-read` joins `quoteIn`, `stringKindIn` and the entry chosen (entries) to the
+-- ---- for contracts between functions, no sentence of a document; law `chosen-read` joins `quoteIn`, `stringKindIn` and the entry chosen (dispatch) to the
 -- above
 
 -- char or byte, by entry 4 or 6

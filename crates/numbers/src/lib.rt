@@ -1,4 +1,4 @@
-// Results in numbers, as they go out to C: a refusal's code, and what a reading holds.
+// Results in numbers, as C gets them: 100,000 plus a refusal's number, and what a reading holds.
 use err::FloatLit;
 use err::Hashes;
 use err::IntegerLit;

@@ -12,6 +12,7 @@ use Rattle.escape.specs.Allows.{unicode, allowNul}
 use Rattle.escape.specs.declared.Allowed.{Allowed}
 
 -- a byte of a raw body: no CR, and no NUL or byte above 127 where the kind has none
+-- 13 is CR
 pub record RawChar (k : Allowed) (b : ℕ) : Type 0 where
   pub cr : b ≡ 13 → ⊥
   pub nul : (not (allowNul k) && eqb b 0) ≡ false

@@ -17,10 +17,11 @@ unfoldable pub rawPlain : Allowed → ℕ → Bool
 rawPlain k b = cond (eqb b 13) false (cond (eqb b 0) (allowNul k) (cond (ltb 127 b) (unicode k) true))
 
 -- what stands h bytes after a quote that closes: with no hashes the quote itself, else the last hash
+-- 34 is `"`, 35 is `#`
 unfoldable pub closingByte : ℕ → ℕ
 closingByte h = cond (eqb h 0) 34 35
 
--- a byte b is passed over, unless it is a quote and the byte `far`, h bytes after it, is the mark m
+-- a byte b is passed over, unless it is a quote and the byte `far`, h bytes after it, is m, the last byte of what closes the string
 -- 34 is `"`
 unfoldable pub passes : Allowed → ℕ → ℕ → ℕ → Bool
 passes k m b far = cond (rawPlain k b) (not (eqb b 34 && eqb far m)) false

@@ -98,10 +98,10 @@ fn is_raw_plain(b: u8, k: Allowed) -> bool
     true
 }
 
-// Whether the byte at i is passed over: a quote is, where h bytes after it the mark does not stand.
-fn passes_at(s: &[u8], i: usize, h: usize, mark: u8, k: Allowed) -> bool
+// Whether the byte at i is passed over: a quote is, unless the byte h bytes after it is the closing sequence's last.
+fn passes_at(s: &[u8], i: usize, h: usize, last: u8, k: Allowed) -> bool
     requires { ⌜ (i < length (now s)) × (h ≤ 255) ⌝ }
-    ensures { λ r. ⌜ r ≡ passes k mark (getD (now (s .entry)) i 0) (getD (now (s .entry)) (i + h) 0) ⌝ }
+    ensures { λ r. ⌜ r ≡ passes k last (getD (now (s .entry)) i 0) (getD (now (s .entry)) (i + h) 0) ⌝ }
 {
     let b = s[i];
     if !is_raw_plain(b, k) {
@@ -110,17 +110,17 @@ fn passes_at(s: &[u8], i: usize, h: usize, mark: u8, k: Allowed) -> bool
     if b != b'"' {
         return true;
     }
-    scan::byte_at(s, i + h) != mark
+    scan::byte_at(s, i + h) != last
 }
 
 // Where the bytes end that are passed over, byte by byte.
-fn scan_from(s: &[u8], from: usize, h: usize, mark: u8, k: Allowed) -> usize
+fn scan_from(s: &[u8], from: usize, h: usize, last: u8, k: Allowed) -> usize
     requires { ⌜ (from ≤ length (now s)) × (h ≤ 255) ⌝ }
-    ensures { λ r. ⌜ r ≡ from + rawRun k h mark (drop from (now (s .entry))) ⌝ }
+    ensures { λ r. ⌜ r ≡ from + rawRun k h last (drop from (now (s .entry))) ⌝ }
 {
     let mut i = from;
     while i < s.len() {
-        if !passes_at(s, i, h, mark, k) {
+        if !passes_at(s, i, h, last, k) {
             return i;
         }
         i += 1;
@@ -130,58 +130,58 @@ fn scan_from(s: &[u8], from: usize, h: usize, mark: u8, k: Allowed) -> usize
 
 // j where the byte at j ends a scan of a block of 64 bytes, else 64. Both tests of a quote are made, and no byte is read
 // under a branch, so that LLVM vectorises the loop.
-fn raw_place(b: u8, far: u8, j: u8, mark: u8, k: Allowed) -> u8
-    ensures { λ r. ⌜ r ≡ cond (passes k mark b far) 64 j ⌝ }
+fn raw_place(b: u8, far: u8, j: u8, last: u8, k: Allowed) -> u8
+    ensures { λ r. ⌜ r ≡ cond (passes k last b far) 64 j ⌝ }
 {
-    if scan::bit(b == b'"') + scan::bit(far == mark) == 2 {
+    if scan::bit(b == b'"') + scan::bit(far == last) == 2 {
         return j;
     }
     if is_raw_plain(b, k) { 64 } else { j }
 }
 
 // Where the bytes end that are passed over, in 64 bytes; `far` are those h bytes after them.
-fn raw_block_run(s: &[u8], far: &[u8], mark: u8, k: Allowed) -> u8
+fn raw_block_run(s: &[u8], far: &[u8], last: u8, k: Allowed) -> u8
     requires { ⌜ (length (now s) ≡ 64) × (length (now far) ≡ 64) ⌝ }
-    ensures { λ r. ⌜ r ≡ run (only 1) (flags k mark (now (s .entry)) (now (far .entry))) ⌝ }
+    ensures { λ r. ⌜ r ≡ run (only 1) (flags k last (now (s .entry)) (now (far .entry))) ⌝ }
 {
     let mut m: u8 = 64;
     let mut j: u8 = 0;
     while j < 64 {
-        m = scan::smaller(m, raw_place(s[j as usize], far[j as usize], j, mark, k));
+        m = scan::smaller(m, raw_place(s[j as usize], far[j as usize], j, last, k));
         j += 1;
     }
     m
 }
 
 // Where the bytes end that are passed over, by blocks while there are 64 bytes and h bytes after them.
-fn raw_end(s: &[u8], from: usize, h: usize, mark: u8, k: Allowed) -> usize
+fn raw_end(s: &[u8], from: usize, h: usize, last: u8, k: Allowed) -> usize
     requires { ⌜ (from ≤ length (now s)) × (h ≤ 255) ⌝ }
-    ensures { λ r. ⌜ r ≡ from + rawRun k h mark (drop from (now (s .entry))) ⌝ }
+    ensures { λ r. ⌜ r ≡ from + rawRun k h last (drop from (now (s .entry))) ⌝ }
 {
     let mut i = from;
     while 64 + h <= s.len() - i {
         let e = i + 64;
         let a = i + h;
         let z = e + h;
-        let m = raw_block_run(&s[i..e], &s[a..z], mark, k);
+        let m = raw_block_run(&s[i..e], &s[a..z], last, k);
         if m < 64 {
             return i + m as usize;
         }
         i = e;
     }
-    scan_from(s, i, h, mark, k)
+    scan_from(s, i, h, last, k)
 }
 
-// The body of a raw string with h hashes, which are counted at the quotes alone that have the mark after them. It stands for its own
+// The body of a raw string with h hashes, which are counted only at quotes that may close it. It stands for its own
 // bytes, so that its length is where it ends.
 fn measure_raw(s: &[u8], h: usize, k: Allowed) -> Measured
     requires { ⌜ h ≤ 255 ⌝ }
     ensures { λ r. ⌜ Measures (rawBody k h (now (s .entry))) r ⌝ }
 {
-    let mark = closing_byte(h);
+    let last = closing_byte(h);
     let mut i = 0;
     loop {
-        let e = raw_end(s, i, h, mark, k);
+        let e = raw_end(s, i, h, last, k);
         if scan::byte_at(s, e) != b'"' {
             return Measured {
                 at: e,

@@ -21,7 +21,7 @@ use Rattle.form_reading.specs.Worths.{worthOf}
 use Rattle.form_reading.proofs.Lengths.{no-len}
 use Rattle.form_reading.specs.Bare.{len, bad, bareLen, bareBy, bareFormBy, Roomy}
 use Rattle.form_bound.specs.Bound.{fitsByBound}
-use Rattle.form_bound.proofs.Sure.{surely}
+use Rattle.form_bound.proofs.ByBound.{by-bound}
 use Rattle.settle.specs.Settled.{FormAnswer, returned, formed, refusal, measured, measureOf, measureAt, settleAt, formBy, formAt, settleBuffer, Fits}
 
 -- a form is no refusal
@@ -79,9 +79,9 @@ module _ (w : Worth) (x : List ℕ) where
 
 -- ---- the measure of a reading o
 
--- its form is measured, and a buffer of `have` bytes has room for it
+-- its form is measured, and a buffer of `room` bytes has room for it
 abbrev pub Ready : List ℕ → Outcome → ℕ → Type 0
-Ready s o have = Fits s o have × (formed (kindIn o) (length (formBy s o)) ≡ measureOf s o)
+Ready s o room = Fits s o room × (formed (kindIn o) (length (formBy s o)) ≡ measureOf s o)
 
 module _ (s : List ℕ) where
   pub measure-refused : (o : Outcome) {m : ℕ} {p : Place} → bareBy s o ≡ bad m p → measureOf s o ≡ refusal m p
@@ -115,17 +115,17 @@ module _ (s : List ℕ) where
         measure-by o e ∙ rw (le-leb (length (formBy s o)) 65536 (omega (arith, form-count o e))) (ap (formed (kindIn o)) (sym (form-count o e)))
 
   -- what is measured can be written into a buffer that is as long
-  pub formed-fits : (o : Outcome) {k n have : ℕ} → measureOf s o ≡ formed k n → n ≤ have → Ready s o have
+  pub formed-fits : (o : Outcome) {k n room : ℕ} → measureOf s o ≡ formed k n → n ≤ room → Ready s o room
   formed-fits (refused m q) e h = no-form e
   formed-fits (accepted k start vs) e h =
       let f = formed-by (worthOf k s vs) (drop start s) e in
-      (record { form = f .0; room = omega (arith, f .1) }, rw (e, f .1, f .2))
+      (record { form = f .0; fits = omega (arith, f .1) }, rw (e, f .1, f .2))
 
-  pub fits-both : (o : Outcome) {have : ℕ} → Fits s o have → length (bareFormBy s o) + length (drop (suffixIn o) s) ≤ have
-  fits-both o f = omega (arith, length-append (bareFormBy s o) (drop (suffixIn o) s), ap length (form-split o (f .form)), f .room)
+  pub fits-both : (o : Outcome) {room : ℕ} → Fits s o room → length (bareFormBy s o) + length (drop (suffixIn o) s) ≤ room
+  fits-both o f = omega (arith, length-append (bareFormBy s o) (drop (suffixIn o) s), ap length (form-split o (f .form)), f .fits)
 
-  pub roomy : (o : Outcome) {have : ℕ} → Fits s o have → Roomy s o have
-  roomy o f = record { form = f .form; room = omega (arith, fits-both o f) }
+  pub roomy : (o : Outcome) {room : ℕ} → Fits s o room → Roomy s o room
+  roomy o f = record { form = f .form; fits = omega (arith, fits-both o f) }
 
 -- where there is a form, the suffix starts inside the text, which is short
 pub form-inside : (s : List ℕ) (o : Outcome) {n : ℕ} → o ≡ readAt 0 s → bareBy s o ≡ len n → (suffixIn o ≤ length s) × (length s ≤ 65536)
@@ -157,17 +157,17 @@ module _ (s buf : List ℕ) (o : Outcome) (is : o ≡ readAt 0 s) where
   unfolding settleAt settleBuffer formAt
   settle-written {k} {n} e h = rw (measure-at e, le-leb n (length buf) h, ← is) (refl, refl)
 
--- ---- strings that surely fit
+-- ---- strings that fit by the bound
 
 -- neither 47 nor 48 comes
-pub surely-ready : (s : List ℕ) (have : ℕ) (found : Reading) → let o = outcomeOf found in o ≡ readAt 0 s → fitsByBound s o have ≡ true → Ready s o have
-surely-ready s have found is e =
+pub bound-ready : (s : List ℕ) (room : ℕ) (found : Reading) → let o = outcomeOf found in o ≡ readAt 0 s → fitsByBound s o room ≡ true → Ready s o room
+bound-ready s room found is e =
     let o = outcomeOf found in
-    let f = surely s have found is e in
-    formed-fits s o (measure-formed s o (f .form) (f .short)) (f .room)
+    let f = by-bound s room found is e in
+    formed-fits s o (measure-formed s o (f .form) (f .short)) (f .fits)
 
 -- a text that is not read is refused as it is there, and the buffer is as it came
 pub read-refused : (s : List ℕ) {n : ℕ} {p : Place} → readAt 0 s ≡ refused n p
-    → ((have : ℕ) → settleAt s have ≡ refusal n p) × ((buf : List ℕ) → settleBuffer s buf ≡ buf)
+    → ((room : ℕ) → settleAt s room ≡ refusal n p) × ((buf : List ℕ) → settleBuffer s buf ≡ buf)
 unfolding measureAt settleAt settleBuffer
-read-refused s e = (λ have. rw e refl, λ buf. rw e refl)
+read-refused s e = (λ room. rw e refl, λ buf. rw e refl)

@@ -81,6 +81,6 @@ unfoldable pub settleBuffer : List ℕ → List ℕ → List ℕ
 settleBuffer s buf = settleBufferBy (settleAt s (length buf)) (formAt s) buf
 
 -- a form is there, and a buffer of `room` bytes has room for the whole
-pub record Fits (s : List ℕ) (o : Outcome) (have : ℕ) : Type 0 where
+pub record Fits (s : List ℕ) (o : Outcome) (room : ℕ) : Type 0 where
   pub form : bareBy s o ≡ len (length (bareFormBy s o))
-  pub room : length (formBy s o) ≤ have
+  pub fits : length (formBy s o) ≤ room

@@ -101,7 +101,7 @@ fn four_byte_lead_against(x: u8) -> u8
 }
 
 // 255 where a byte breaks a rule after the three before it, else 0. Every test is made, so that LLVM vectorises `worst_fault`;
-// a tail is wanted where one of the three is that high.
+// a continuation byte is wanted where one of the three is a lead byte of enough bytes.
 fn fault(c: u8, b: u8, a: u8, x: u8) -> u8
     ensures { λ r. ⌜ r ≡ faultMask c b a x ⌝ }
 {
@@ -154,7 +154,7 @@ fn ends_clean(text: &[u8]) -> bool
     text[text.len() - 3] < 0xF0
 }
 
-// Whether no byte from an offset on is at fault, and no tail is wanted at the end: by blocks, then the rest at once.
+// Whether no byte from an offset on is at fault, and no continuation byte is wanted at the end: by blocks, then the rest at once.
 fn clean_from(text: &[u8], from: usize) -> bool
     requires { ⌜ (3 ≤ from) × (from ≤ length (now text)) ⌝ }
     ensures { λ r. ⌜ r ≡ cleanAfterThree (drop (from - 3) (now (text .entry))) ⌝ }

@@ -23,7 +23,7 @@ use std::time::{Duration, Instant};
 
 /// How long one measurement takes.
 const MEASURE: Duration = Duration::from_millis(1);
-const ROUNDS: usize = 100;
+const ROUNDS: usize = 80;
 
 #[derive(Clone, Copy)]
 enum Side {

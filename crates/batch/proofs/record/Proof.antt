@@ -84,7 +84,7 @@ returns-6 c =
     let p = c .before .before .before .before in
     let n = p .before .before .before .before .before .before .before .before .before .before .before .before .before .number-at2 in
     let zero : n .result - 0 ≡ n .result = omega arith in
-    rw (← zero ∙ n .ensures) (p .print-record .ensures)
+    rw (← zero ∙ n .ensures) ((search needs, p .print-record .ensures .0), (search needs, p .print-record .ensures .1))
 
 pub record-spec : {M : Type 1} → statement M
 record-spec =

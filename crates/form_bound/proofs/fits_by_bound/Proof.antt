@@ -56,19 +56,19 @@ returns-3 c = rw (c .before .before .before .found3 .given .1) (c .bound-fits3 .
 abbrev others : List ℕ
 others = 0 ∷ 1 ∷ 2 ∷ 3 ∷ 4 ∷ 6 ∷ []
 
-other : (found : Reading) (s : List ℕ) (have : ℕ) → OneOf others (tagOf the-type found) → false ≡ fitsByBound s (outcomeOf found) have
-other (reading.Refused k p) s have o = refl
-other (reading.Bool lit) s have o = refl
-other (reading.Integer lit) s have o = refl
-other (reading.Float lit) s have o = refl
-other (reading.Char lit) s have o = refl
-other (reading.Byte lit) s have o = refl
-other (reading.String lit) s have o = absurd (miss others _ tt o)
-other (reading.ByteString lit) s have o = absurd (miss others _ tt o)
-other (reading.CString lit) s have o = absurd (miss others _ tt o)
+other : (found : Reading) (s : List ℕ) (room : ℕ) → OneOf others (tagOf the-type found) → false ≡ fitsByBound s (outcomeOf found) room
+other (reading.Refused k p) s room o = refl
+other (reading.Bool lit) s room o = refl
+other (reading.Integer lit) s room o = refl
+other (reading.Float lit) s room o = refl
+other (reading.Char lit) s room o = refl
+other (reading.Byte lit) s room o = refl
+other (reading.String lit) s room o = absurd (miss others _ tt o)
+other (reading.ByteString lit) s room o = absurd (miss others _ tt o)
+other (reading.CString lit) s room o = absurd (miss others _ tt o)
 
 returns-4 : tie.Need-returns-4
-returns-4 c = let a = c .before .before .args in other (a .found) _ (a .have) (c .match .keys4)
+returns-4 c = let a = c .before .before .args in other (a .found) _ (a .room) (c .match .keys4)
 
 pub fits-by-bound-spec : {M : Type 1} → statement M
 fits-by-bound-spec =

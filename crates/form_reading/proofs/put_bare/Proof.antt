@@ -25,7 +25,7 @@ put-bytes-requires c κs =
     let lit = f .given .0 .0 in
     let s = c .before .before .before .before .before .args .text .now in
     let p = rw (f .given .1) at (c .before .before .before .before .before .pre) in
-    omega (arith, ap length (bool-text s lit (drop (lit .end) s) (p .0)), p .1 .room)
+    omega (arith, ap length (bool-text s lit (drop (lit .end) s) (p .0)), p .1 .fits)
 
 enum-known-found : tie.Need-enum-known-found
 enum-known-found c = search needs
@@ -40,7 +40,7 @@ put-float-requires : tie.Need-put-float-requires
 put-float-requires c κs =
     let f = c .before .before .found2 in
     let p = rw (f .given .1) at (c .before .before .before .before .before .before .pre) in
-    ((short _ (p .0), float-read _ (f .given .0 .0) (p .0)), (float-near _ _ (p .1 .form), p .1 .room))
+    ((short _ (p .0), float-read _ (f .given .0 .0) (p .0)), (float-near _ _ (p .1 .form), p .1 .fits))
 
 enum-known-found-3 : tie.Need-enum-known-found-3
 enum-known-found-3 c = search needs
@@ -49,7 +49,7 @@ put-char-literal-requires : tie.Need-put-char-literal-requires
 put-char-literal-requires c κs =
     let f = c .before .before .found3 in
     let p = rw (f .given .1) at (c .before .before .before .before .before .before .pre) in
-    (char-scalar _ (f .given .0 .0) (p .0), p .1 .room)
+    (char-scalar _ (f .given .0 .0) (p .0), p .1 .fits)
 
 enum-known-found-4 : tie.Need-enum-known-found-4
 enum-known-found-4 c = search needs
@@ -58,13 +58,13 @@ put-form-requires : tie.Need-put-form-requires
 put-form-requires c κs =
     let f = c .before .before .found4 in
     let p = rw (f .given .1) at (c .before .before .before .before .before .before .pre) in
-    (((short _ (p .0), utf8 _ (p .0)), string-read _ Text (f .given .0 .0) (p .0)), p .1 .room)
+    (((short _ (p .0), utf8 _ (p .0)), string-read _ Text (f .given .0 .0) (p .0)), p .1 .fits)
 
 enum-known-found-5 : tie.Need-enum-known-found-5
 enum-known-found-5 c = search needs
 
 put-byte-literal-requires : tie.Need-put-byte-literal-requires
-put-byte-literal-requires c κs = (rw (c .before .before .found5 .given .1) at (c .before .before .before .before .before .before .pre .1)) .room
+put-byte-literal-requires c κs = (rw (c .before .before .found5 .given .1) at (c .before .before .before .before .before .before .pre .1)) .fits
 
 enum-known-found-6 : tie.Need-enum-known-found-6
 enum-known-found-6 c = search needs
@@ -73,7 +73,7 @@ put-form-requires-2 : tie.Need-put-form-requires-2
 put-form-requires-2 c κs =
     let f = c .before .before .found6 in
     let p = rw (f .given .1) at (c .before .before .before .before .before .before .pre) in
-    (((short _ (p .0), utf8 _ (p .0)), string-read _ Bytes (f .given .0 .0) (p .0)), p .1 .room)
+    (((short _ (p .0), utf8 _ (p .0)), string-read _ Bytes (f .given .0 .0) (p .0)), p .1 .fits)
 
 enum-known-found-7 : tie.Need-enum-known-found-7
 enum-known-found-7 c = search needs
@@ -82,7 +82,7 @@ put-form-requires-3 : tie.Need-put-form-requires-3
 put-form-requires-3 c κs =
     let f = c .before .before .found7 in
     let p = rw (f .given .1) at (c .before .before .before .before .before .before .pre) in
-    (((short _ (p .0), utf8 _ (p .0)), string-read _ C (f .given .0 .0) (p .0)), p .1 .room)
+    (((short _ (p .0), utf8 _ (p .0)), string-read _ C (f .given .0 .0) (p .0)), p .1 .fits)
 
 returns : tie.Need-returns
 returns c = no-len (rw (c .enum-told .given .1) at (c .before .before .before .before .pre .1 .form))

@@ -38,7 +38,7 @@ part-put-form-end : tie.Need-part-put-form-end
 part-put-form-end c = search needs
 
 put-form-requires : tie.Need-put-form-requires
-put-form-requires c κs = rw (part-to-end, is-number (c .before)) (c .before .before .before .before .before .before .before .before .pre .1 .room)
+put-form-requires c κs = rw (part-to-end, is-number (c .before)) (c .before .before .before .before .before .before .before .before .pre .1 .fits)
 
 same-length : tie.Need-same-length
 same-length c = search needs

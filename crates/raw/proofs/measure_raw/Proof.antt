@@ -19,10 +19,10 @@ use Rattle.raw.proofs.measure_raw.Tie as tie
 
 -- what is passed stands for itself
 abbrev Inv-loop : tie.InvT-loop
-Inv-loop s h k mark i₀ i = Passed (rawStepOf k h) s i (take i s)
+Inv-loop s h k last i₀ i = Passed (rawStepOf k h) s i (take i s)
 
 abbrev μ-loop : tie.MeasureT-loop
-μ-loop s h k mark i₀ i = length s - i
+μ-loop s h k last i₀ i = length s - i
 
 -- the text, and where a scan ends in it
 abbrev text : tie.After-raw-end Inv-loop μ-loop → List ℕ

@@ -14,15 +14,15 @@ use Rattle.raw.proofs.raw_block_run.Tie as tie
 
 -- m is the least place before j that stands in the way
 abbrev Inv-loop : tie.InvT-loop
-Inv-loop s far mark k m₀ j₀ m j = Least (only 1) (flags k mark s far) 64 m j
+Inv-loop s far last k m₀ j₀ m j = Least (only 1) (flags k last s far) 64 m j
 
 abbrev μ-loop : tie.MeasureT-loop
-μ-loop s far mark k m₀ j₀ m j = 64 - j
+μ-loop s far last k m₀ j₀ m j = 64 - j
 
 loop-holds : tie.Need-loop-holds Inv-loop μ-loop
 loop-holds c =
     let a = c .before .before .args in
-    least-start _ _ _ (length-flags (a .k) (a .mark) (a .s .now) (a .far .now) ∙ c .before .before .pre .0)
+    least-start _ _ _ (length-flags (a .k) (a .last) (a .s .now) (a .far .now) ∙ c .before .before .pre .0)
 
 cast-raw-place : tie.Need-cast-raw-place Inv-loop μ-loop
 cast-raw-place c = search needs
@@ -54,14 +54,14 @@ loop-again c =
     let a = b .before .before .before .before .args in
     let p = b .before .before .before .before .pre in
     let j = b .before .loop .j in
-    least-more _ _ _ (length-flags (a .k) (a .mark) (a .s .now) (a .far .now) ∙ p .0) _ _ _ _ (b .before .loop .inv) (b .loop-test .taken)
-    (c .before .raw-place .ensures ∙ ap (λ (t : Bool). cond t 64 j) (sym (getD-flags (a .k) (a .mark) (a .s .now) (a .far .now) j (omega (arith, p .0)))))
+    least-more _ _ _ (length-flags (a .k) (a .last) (a .s .now) (a .far .now) ∙ p .0) _ _ _ _ (b .before .loop .inv) (b .loop-test .taken)
+    (c .before .raw-place .ensures ∙ ap (λ (t : Bool). cond t 64 j) (sym (getD-flags (a .k) (a .last) (a .s .now) (a .far .now) j (omega (arith, p .0)))))
     (c .smaller .ensures)
 
 returns : tie.Need-returns Inv-loop μ-loop
 returns c =
     let a = c .before .before .before .before .args in
-    least-end _ _ _ (length-flags (a .k) (a .mark) (a .s .now) (a .far .now) ∙ c .before .before .before .before .pre .0) _ _ (c .before .loop .inv) (c .loop-test .left)
+    least-end _ _ _ (length-flags (a .k) (a .last) (a .s .now) (a .far .now) ∙ c .before .before .before .before .pre .0) _ _ (c .before .loop .inv) (c .loop-test .left)
 
 pub raw-block-run-spec : {M : Type 1} → statement M
 raw-block-run-spec =

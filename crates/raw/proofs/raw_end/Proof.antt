@@ -11,10 +11,10 @@ use Rattle.raw.proofs.raw_end.Tie as tie
 
 -- the way from the start is what is passed and the way that is left
 abbrev Inv-loop : tie.InvT-loop
-Inv-loop s from h mark k i₀ i = (i ≤ length s) × (i + rawRun k h mark (drop i s) ≡ from + rawRun k h mark (drop from s))
+Inv-loop s from h last k i₀ i = (i ≤ length s) × (i + rawRun k h last (drop i s) ≡ from + rawRun k h last (drop from s))
 
 abbrev μ-loop : tie.MeasureT-loop
-μ-loop s from h mark k i₀ i = length s - i
+μ-loop s from h last k i₀ i = length s - i
 
 loop-holds : tie.Need-loop-holds Inv-loop μ-loop
 loop-holds c = (search needs, refl)
@@ -65,7 +65,7 @@ returns : tie.Need-returns Inv-loop μ-loop
 returns c =
     let l = c .before .before .before .before .before in
     let a = l .before .before .args in
-    scan-here (a .k) (a .h) (a .mark) (a .s .now) (l .loop .i) 64 _ (c .before .raw-block-run .ensures) (c .if1 .taken) ∙ l .loop .inv .1
+    scan-here (a .k) (a .h) (a .last) (a .s .now) (l .loop .i) 64 _ (c .before .raw-block-run .ensures) (c .if1 .taken) ∙ l .loop .inv .1
 
 loop-less : tie.Need-loop-less Inv-loop μ-loop
 loop-less c = search needs
@@ -74,7 +74,7 @@ loop-again : tie.Need-loop-again Inv-loop μ-loop
 loop-again c =
     let l = c .before .before .before .before .before in
     let a = l .before .before .args in
-    (search needs, sym (scan-after (a .k) (a .h) (a .mark) (a .s .now) (l .loop .i) 64 _ (c .before .raw-block-run .ensures) (c .if1 .left)) ∙ l .loop .inv .1)
+    (search needs, sym (scan-after (a .k) (a .h) (a .last) (a .s .now) (l .loop .i) 64 _ (c .before .raw-block-run .ensures) (c .if1 .left)) ∙ l .loop .inv .1)
 
 scan-from-requires : tie.Need-scan-from-requires Inv-loop μ-loop
 scan-from-requires c κs = search needs

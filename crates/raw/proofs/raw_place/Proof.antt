@@ -10,10 +10,10 @@ use Rattle.raw.proofs.raw_place.Statement.{statement}
 use Rattle.raw.proofs.raw_place.Tie as tie
 
 -- a byte that is no quote with the mark after it is passed over where a raw body may hold it
-plain : (c : tie.Else1) → let a = c .before .before .before .args in passes (a .k) (a .mark) (a .b) (a .far) ≡ rawPlain (a .k) (a .b)
+plain : (c : tie.Else1) → let a = c .before .before .before .args in passes (a .k) (a .last) (a .b) (a .far) ≡ rawPlain (a .k) (a .b)
 plain c =
     let a = c .before .before .before .args in
-    not-both (a .k) (a .mark) (a .b) (a .far) λ e. c .if1 .left (omega (arith, c .before .before .bit .ensures, c .before .bit2 .ensures))
+    not-both (a .k) (a .last) (a .b) (a .far) λ e. c .if1 .left (omega (arith, c .before .before .bit .ensures, c .before .bit2 .ensures))
 
 bit-requires : tie.Need-bit-requires
 bit-requires c κs = search needs
@@ -27,7 +27,7 @@ add-if1 c = omega (arith, bit-le _ (c .before .bit .ensures), bit-le _ (c .bit2 
 returns : tie.Need-returns
 returns c =
     let a = c .before .before .before .args in
-    rw (both (a .k) (a .mark) (a .b) (a .far) (omega (arith, c .before .before .bit .ensures, c .before .bit2 .ensures, c .if1 .taken)))
+    rw (both (a .k) (a .last) (a .b) (a .far) (omega (arith, c .before .before .bit .ensures, c .before .bit2 .ensures, c .if1 .taken)))
 
 is-raw-plain-requires : tie.Need-is-raw-plain-requires
 is-raw-plain-requires c κs = search needs

@@ -13,10 +13,10 @@ use Rattle.raw.proofs.scan_from.Tie as tie
 
 -- the way from the start is what is passed and the way that is left
 abbrev Inv-loop : tie.InvT-loop
-Inv-loop s from h mark k i₀ i = (i ≤ length s) × (i + rawRun k h mark (drop i s) ≡ from + rawRun k h mark (drop from s))
+Inv-loop s from h last k i₀ i = (i ≤ length s) × (i + rawRun k h last (drop i s) ≡ from + rawRun k h last (drop from s))
 
 abbrev μ-loop : tie.MeasureT-loop
-μ-loop s from h mark k i₀ i = length s - i
+μ-loop s from h last k i₀ i = length s - i
 
 loop-holds : tie.Need-loop-holds Inv-loop μ-loop
 loop-holds c = (search needs, refl)
@@ -47,7 +47,7 @@ loop-again c =
 returns-2 : tie.Need-returns-2 Inv-loop μ-loop
 returns-2 c =
     let a = c .before .before .before .args in
-    omega (arith, c .before .loop .inv, scan-in (a .k) (a .h) (a .mark) (a .s .now) (c .before .loop .i))
+    omega (arith, c .before .loop .inv, scan-in (a .k) (a .h) (a .last) (a .s .now) (c .before .loop .i))
 
 pub scan-from-spec : {M : Type 1} → statement M
 scan-from-spec =

@@ -20,7 +20,7 @@ put-bare-requires : tie.Need-put-bare-requires
 put-bare-requires c κs = let b = c .before .before .before .before in (b .pre .0, roomy _ _ (b .pre .1))
 
 sub-put-bytes : tie.Need-sub-put-bytes
-sub-put-bytes c = laws.within (c .before .before .put-bare .ensures) (roomy _ _ (c .before .before .before .before .before .before .before .pre .1) .room)
+sub-put-bytes c = laws.within (c .before .before .put-bare .ensures) (roomy _ _ (c .before .before .before .before .before .before .before .pre .1) .fits)
 
 part-put-bytes-start : tie.Need-part-put-bytes-start
 part-put-bytes-start c = sub-put-bytes c

@@ -7,7 +7,7 @@ use mathlib.Core.Path.{sym, ap, _∙_}
 use lib.ListN.{length}
 use Rattle.err.specs.Reading.{outcomeOf}
 use Rattle.settle.specs.Settled.{settledOf}
-use Rattle.settle.proofs.Forms.{Ready, formed-fits, surely-ready, settle-refused, settle-small, settle-written}
+use Rattle.settle.proofs.Forms.{Ready, formed-fits, bound-ready, settle-refused, settle-small, settle-written}
 use Rattle.settle.proofs.settle_found.Statement.{statement}
 use Rattle.settle.proofs.settle_found.Tie as tie
 
@@ -43,7 +43,7 @@ fits c =
     let b = c .before in
     ⊎-elim
     (λ w. formed-fits _ _ (sym (w .1 .ensures) ∙ ap settledOf (w .3 .given .1)) (w .5 .left))
-    (λ w. surely-ready _ _ (b .before .before .before .args .found) (b .before .before .before .pre) (sym (b .fits-by-bound .ensures) ∙ not-false _ (w .left)))
+    (λ w. bound-ready _ _ (b .before .before .before .args .found) (b .before .before .before .pre) (sym (b .fits-by-bound .ensures) ∙ not-false _ (w .left)))
     (c .if1 .came)
 
 put-reading-requires : tie.Need-put-reading-requires
@@ -60,7 +60,7 @@ returns-3 c =
     let p = c .before .before .before in
     let j = p .before .before in
     let f = fits j in
-    let a = settle-written _ _ _ (j .before .before .before .before .pre) (f .1) (f .0 .room) in
+    let a = settle-written _ _ _ (j .before .before .before .before .pre) (f .1) (f .0 .fits) in
     (rw (c .kind-of .ensures, p .put-reading .ensures .count) (a .0), p .put-reading .ensures .bytes ∙ a .1)
 
 pub settle-found-spec : {M : Type 1} → statement M

@@ -1,4 +1,4 @@
--- A string that surely fits has a form, and the form with its suffix is short and fits.
+-- A string that fits by the bound has a form, and the form with its suffix is short and fits.
 -- Assumes nothing.
 use mathlib.Core.Path.{_≡_, refl, sym, ap, _∙_}
 use mathlib.Core.Bool.{true, and-eq-true-iff}
@@ -31,21 +31,21 @@ use Rattle.form_reading.proofs.Lengths.{plain-bare}
 use Rattle.form_reading.specs.Bare.{len, bareBy, bareFormBy}
 use Rattle.form_bound.specs.Bound.{boundFits, fitsByBound}
 
--- a reading o of a text s has a form, which with the suffix has at most 65,536 bytes and at most `have`
-pub record Sure (s : List ℕ) (o : Outcome) (have : ℕ) : Type 0 where
+-- a reading o of a text s has a form, which with the suffix has at most 65,536 bytes and at most `room`
+pub record Bounded (s : List ℕ) (o : Outcome) (room : ℕ) : Type 0 where
   pub form : bareBy s o ≡ len (length (bareFormBy s o))
   pub short : length (bareFormBy s o) + (length s - suffixIn o) ≤ 65536
-  pub room : length (bareFormBy s o) + (length s - suffixIn o) ≤ have
+  pub fits : length (bareFormBy s o) + (length s - suffixIn o) ≤ room
 
 -- ---- strings, whose forms have at most four bytes for each of the value's, quotes and a letter
 
-fits-sum : (n m have : ℕ) → boundFits n m have ≡ true → (4 * n + 3 + m ≤ 65536) × (4 * n + 3 + m ≤ have)
+fits-sum : (n m room : ℕ) → boundFits n m room ≡ true → (4 * n + 3 + m ≤ 65536) × (4 * n + 3 + m ≤ room)
 unfolding boundFits
-fits-sum n m have e =
-    let t = and-eq-true-iff (leb (4 * n + 3 + m) 65536) (leb (4 * n + 3 + m) have) .0 e in
+fits-sum n m room e =
+    let t = and-eq-true-iff (leb (4 * n + 3 + m) 65536) (leb (4 * n + 3 + m) room) .0 e in
     (leb-true _ _ (t .0), leb-true _ _ (t .1))
 
-module _ (s : List ℕ) (have : ℕ) where
+module _ (s : List ℕ) (room : ℕ) where
   string-form : (k : Allowed) (lit : StringLit) → let o = stringIn k lit in
       (bareFormBy s o ≡ bareForm (worthIn k (stringValue k s)) []) × (bareBy s o ≡ len (length (bareFormBy s o)))
   string-form Text lit = (refl, sym (plain-bare (worth.string _) _ refl))
@@ -57,9 +57,9 @@ module _ (s : List ℕ) (have : ℕ) where
     string-size : length (bareFormBy s (stringIn k lit)) ≡ length (openingOf k) + length (styledForms (verbatimIn k) 34 (stringValue k s)) + 1
     string-size = ap length (string-form k lit .0) ∙ read-length k s lit (utf8 s is) (string-read s k lit is)
 
-    bound-sure : boundFits (lit .«value_len») (length s - lit .«start_suffix») have ≡ true → Sure s (stringIn k lit) have
-    bound-sure e =
-        let m = fits-sum (lit .«value_len») (length s - lit .«start_suffix») have e in
+    bound-fits : boundFits (lit .«value_len») (length s - lit .«start_suffix») room ≡ true → Bounded s (stringIn k lit) room
+    bound-fits e =
+        let m = fits-sum (lit .«value_len») (length s - lit .«start_suffix») room e in
         let short : length (bareFormBy s (stringIn k lit)) ≤ 4 * lit .«value_len» + 3 =
         omega (
           arith,
@@ -68,16 +68,16 @@ module _ (s : List ℕ) (have : ℕ) where
           forms-short (verbatimIn k) 34 (stringValue k s),
           value-length k s (sym (string-read s k lit is)),
         ) in
-        record { form = string-form k lit .1; short = omega (arith, m .0); room = omega (arith, m .1) }
+        record { form = string-form k lit .1; short = omega (arith, m .0); fits = omega (arith, m .1) }
 
-  -- THE LAW: a string that surely fits has a form that fits
-  pub surely : (found : Reading) → let o = outcomeOf found in o ≡ readAt 0 s → fitsByBound s o have ≡ true → Sure s o have
-  surely (reading.String lit) is e = bound-sure Text lit is e
-  surely (reading.ByteString lit) is e = bound-sure Bytes lit is e
-  surely (reading.CString lit) is e = bound-sure C lit is e
-  surely (reading.Refused k p) is e = clash e refl
-  surely (reading.Bool lit) is e = clash e refl
-  surely (reading.Integer lit) is e = clash e refl
-  surely (reading.Float lit) is e = clash e refl
-  surely (reading.Char lit) is e = clash e refl
-  surely (reading.Byte lit) is e = clash e refl
+  -- THE LAW: a string that fits by the bound has a form that fits
+  pub by-bound : (found : Reading) → let o = outcomeOf found in o ≡ readAt 0 s → fitsByBound s o room ≡ true → Bounded s o room
+  by-bound (reading.String lit) is e = bound-fits Text lit is e
+  by-bound (reading.ByteString lit) is e = bound-fits Bytes lit is e
+  by-bound (reading.CString lit) is e = bound-fits C lit is e
+  by-bound (reading.Refused k p) is e = clash e refl
+  by-bound (reading.Bool lit) is e = clash e refl
+  by-bound (reading.Integer lit) is e = clash e refl
+  by-bound (reading.Float lit) is e = clash e refl
+  by-bound (reading.Char lit) is e = clash e refl
+  by-bound (reading.Byte lit) is e = clash e refl
