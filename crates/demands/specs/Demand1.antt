@@ -2,9 +2,8 @@
 --   f x y             the function f of x and y, in C f(x, y); `f (refused n p) = ..` is its value in that case. `data` lists all cases
 --   (x : A) → P       for every x of A, P holds; so too {x : A} → P, where x need not be named at a use
 --   (x : A) × P       there is an x of A with P
---   P × Q, P ⊎ Q      P and Q; P or Q
---   P → Q, P ↔ Q      if P, then Q; P exactly when Q
---   P → ⊥, a ≡ b      not P; a and b are equal
+--   P × Q, P ⊎ Q, P → Q      P and Q; P or Q; if P, then Q
+--   P ↔ Q, P → ⊥, a ≡ b      P exactly when Q; not P; a and b are equal
 --   a ∷ s, []         the list s with a in front; the empty list. (a, b) is a pair, p .0 and p .1 are its parts, d .base is a record's field `base`
 --   T b, cond b x y   the test b is true; x where the test b is true, else y. λ v. e is the function that takes v to e
 --   length s, drop n s, part a z s, over v buf   how many bytes; all but the first n; the bytes from a to z; v, and after it what buf held there
