@@ -49,9 +49,9 @@ decoded-fits code s room {n} = by-kind (kindCoded code)
 abbrev RefusedWithin : ℕ → List ℕ → settled.FormAnswer → ℕ → ℕ → Type 0
 RefusedWithin room form a k n = a ≡ settled.formed k n → (n ≤ room) × (n ≡ length form)
 
-settled-told : (s : List ℕ) (room k n : ℕ) → RefusedWithin room (settled.formAt s) (settled.settleAt s room) k n
+settled-is : (s : List ℕ) (room k n : ℕ) → RefusedWithin room (settled.formAt s) (settled.settleAt s room) k n
 unfolding settled.settleAt settled.measureAt settled.measured settled.formAt
-settled-told s room k n = by-reading (readAt 0 s)
+settled-is s room k n = by-reading (readAt 0 s)
   where
     by-reading : (o : Outcome) → RefusedWithin room (settled.formBy s o) (settled.fitted room (settled.measureOf s o)) k n
     by-reading (refused m p) = no-form
@@ -71,9 +71,9 @@ settled-told s room k n = by-reading (readAt 0 s)
         P a = Q (settled.fitted room a)
 
 pub settled-fits : (s : List ℕ) (room : ℕ) {k n : ℕ} → settled.settleAt s room ≡ settled.formed k n → n ≤ room
-settled-fits s room {k} {n} e = settled-told s room k n e .0
+settled-fits s room {k} {n} e = settled-is s room k n e .0
 
 -- the form is what was written
 pub form-written : (s buf : List ℕ) {k n : ℕ} → settled.settleAt s (length buf) ≡ settled.formed k n → take n (settled.settleBuffer s buf) ≡ settled.formAt s
 unfolding settled.settleBuffer over
-form-written s buf {k} {n} e = rw e (take-at (settled.formAt s) (drop (length (settled.formAt s)) buf) n (sym (settled-told s (length buf) k n e .1)))
+form-written s buf {k} {n} e = rw e (take-at (settled.formAt s) (drop (length (settled.formAt s)) buf) n (sym (settled-is s (length buf) k n e .1)))

@@ -27,9 +27,9 @@ all-twos p s at d e f g =
     all-join p s at 4 4 (all-join p s at 2 2 d e) (all-join p s (at + 4) 2 2 f (rw six at g))
 
 -- a sure byte stands for itself, where it is ASCII or the kind has other characters
-sure-plain : (k : Allowed) (b : ℕ) → plainInAll b ≡ true → (unicode k ≡ false → ascii b ≡ true) → plainByte k b ≡ true
+plain-in-all : (k : Allowed) (b : ℕ) → plainInAll b ≡ true → (unicode k ≡ false → ascii b ≡ true) → plainByte k b ≡ true
 unfolding plainByte plainInAll ascii
-sure-plain k b e f = go (eqb b 92) (eqb b 34) (eqb b 13) (eqb b 0) (ltb 127 b) (unicode k) e (λ x. le-ltb 127 b (omega (arith, ltb-true b 128 (f x))))
+plain-in-all k b e f = go (eqb b 92) (eqb b 34) (eqb b 13) (eqb b 0) (ltb 127 b) (unicode k) e (λ x. le-ltb 127 b (omega (arith, ltb-true b 128 (f x))))
   where
     go : (backslash quote cr nul high u : Bool) → (not backslash && not quote && (not cr && not nul)) ≡ true → (u ≡ false → high ≡ false)
         → cond backslash false (cond cr false (cond quote false (cond nul (allowNul k) (cond high u true)))) ≡ true
@@ -47,8 +47,8 @@ module _ (k : Allowed) (s : List ℕ) (at : ℕ) where
   each e i h = by-kind (unicode k) (allIn ascii at 8 s) refl refl e
     where
       by-kind : (u a : Bool) → unicode k ≡ u → allIn ascii at 8 s ≡ a → cond u (allIn plainInAll at 8 s) (a && allIn plainInAll at 8 s) ≡ true → plainByte k (getD s (at + i) 0) ≡ true
-      by-kind true a x y e = sure-plain k _ (all-each plainInAll s at 8 i e h) (λ z. clash x z)
-      by-kind false true x y e = sure-plain k _ (all-each plainInAll s at 8 i e h) (λ z. all-each ascii s at 8 i y h)
+      by-kind true a x y e = plain-in-all k _ (all-each plainInAll s at 8 i e h) (λ z. clash x z)
+      by-kind false true x y e = plain-in-all k _ (all-each plainInAll s at 8 i e h) (λ z. all-each ascii s at 8 i y h)
       by-kind false false x y e = clash e refl
 
   -- so that the run goes on after them

@@ -90,9 +90,9 @@ pub fn plain_end(s: &[u8], from: usize, k: Allowed) -> usize
     requires { ⌜ from ≤ length (now s) ⌝ }
     ensures { λ r. ⌜ r ≡ from + run (plainByte k) (drop from (now (s .entry))) ⌝ }
 {
-    let near = scan::clamped_end(from, 16, s.len());
-    let i = byte_run(s, from, near, k);
-    if i < near {
+    let stop = scan::clamped_end(from, 16, s.len());
+    let i = byte_run(s, from, stop, k);
+    if i < stop {
         return i;
     }
     // not `block_end(s, i, k)`: a slice that is handed on whole has to live in memory

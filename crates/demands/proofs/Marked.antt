@@ -75,7 +75,7 @@ marked-forms =
       reduced = unfold decimal in gives refl refl;
       zero-float = unfold decimal in gives refl refl;
       too-far = λ room. refl;
-      just-near = gives (rw (last 1 (omega arith), million)) (rw (last 1 (omega arith), million));
+      just-in-range = gives (rw (last 1 (omega arith), million)) (rw (last 1 (omega arith), million));
       c-string = gives refl refl;
       hex = unfold decimal in gives refl refl;
     }

@@ -30,7 +30,7 @@ pub record MarkedForms : Type 0 where
   pub reduced : Forms "1.50e1" "15e0" 3
   pub zero-float : Forms "0e1000001" "0e0" 3
   pub too-far : (room : ℕ) → settleAt (bytes "10e1000000") room ≡ refusal 46 none
-  pub just-near : Forms "0.1e1000001" "1e1000000" 3
+  pub just-in-range : Forms "0.1e1000001" "1e1000000" 3
   pub c-string : Forms "c\"é\"" "c\"\\xc3\\xa9\"" 8
   pub hex : Forms "0x_1F" "31" 2
 

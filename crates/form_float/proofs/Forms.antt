@@ -21,16 +21,16 @@ module _ (m : List ℕ) (d : Decimal) (r : Scaling) (h : Scales m d r) where
   zero-coef e = subst (λ (x : Scaling). Scales m d x) e h
 
   -- zero is `0e0`, and its power is in range
-  pub zero-near : r ≡ scaling.Zero → powerInRange d ≡ true
+  pub zero-in-range : r ≡ scaling.Zero → powerInRange d ≡ true
   unfolding reduce
-  zero-near e = rw (zero-coef e)
+  zero-in-range e = rw (zero-coef e)
 
   pub zero-form : r ≡ scaling.Zero → reducedForm (reduce d) ≡ 48 ∷ 101 ∷ 48 ∷ []
   unfolding reduce reducedForm decimal
   zero-form e = rw (zero-coef e)
 
-  pub far-not-near : r ≡ scaling.TooFar → powerInRange d ≡ false
-  far-not-near e = lt-leb (reduce d .up + reduce d .down) 1000000 (subst (λ (x : Scaling). Scales m d x) e h .1)
+  pub far-not-in-range : r ≡ scaling.TooFar → powerInRange d ≡ false
+  far-not-in-range e = lt-leb (reduce d .up + reduce d .down) 1000000 (subst (λ (x : Scaling). Scales m d x) e h .1)
 
   pub found : (x : Scaled) → r ≡ scaling.To x → ScaledTo m d x
   found x e = subst (λ (x : Scaling). Scales m d x) e h
@@ -46,8 +46,8 @@ module _ (m : List ℕ) (d : Decimal) (r : Scaled) (h : ScaledTo m d r) where
       go true e u w s = f e u w (s refl)
       go false e u w s = g e u w
 
-  pub found-near : powerInRange d ≡ true
-  found-near =
+  pub found-in-range : powerInRange d ≡ true
+  found-in-range =
       le-leb (reduce d .up + reduce d .down) 1000000
       (powers (λ e u w s. omega (arith, h .power)) (λ e u w. omega (arith, h .power)))
 

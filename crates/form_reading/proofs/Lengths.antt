@@ -85,9 +85,9 @@ module _ (d : Decimal) (x : List ℕ) where
       by-test false = refl
 
   -- where there is a form, the power is in range
-  pub float-near : {n : ℕ} → bareLen (worth.float d) x ≡ len n → powerInRange d ≡ true
+  pub float-in-range : {n : ℕ} → bareLen (worth.float d) x ≡ len n → powerInRange d ≡ true
   unfolding bareLen
-  float-near {n} = by-test (powerInRange d)
+  float-in-range {n} = by-test (powerInRange d)
     where
       by-test : (t : Bool) → cond (eqb (cond t 0 46) 0) (len (length (reducedForm (reduce d)))) (bad (cond t 0 46) none) ≡ len n → t ≡ true
       by-test true e = refl

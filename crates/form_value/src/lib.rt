@@ -94,9 +94,9 @@ fn itself_end(s: &[u8], from: usize, style: Style) -> usize
     requires { ⌜ from ≤ length (now s) ⌝ }
     ensures { λ r. ⌜ r ≡ from + run (itself (style .verbatim) (style .quote)) (drop from (now (s .entry))) ⌝ }
 {
-    let near = scan::clamped_end(from, 16, s.len());
-    let i = byte_run(s, from, near, style);
-    if i < near {
+    let stop = scan::clamped_end(from, 16, s.len());
+    let i = byte_run(s, from, stop, style);
+    if i < stop {
         return i;
     }
     block_end(s, i, style)

@@ -59,11 +59,11 @@ module _ (n d by largest : ℕ) (p : 2 ≤ by) where
   pub past-within : largest / by < n → false ≡ leb (n * by + d) largest
   past-within h = sym (lt-leb (n * by + d) largest (omega (arith, div-lt-iff-lt-mul some .0 h)))
 
-  pub near-product : n ≤ largest / by → n * by ≤ largest
-  near-product h = le-div-iff-mul-le some .0 h
+  pub small-product : n ≤ largest / by → n * by ≤ largest
+  small-product h = le-div-iff-mul-le some .0 h
 
-  pub near-within : n * by ≤ largest → leb d (largest - n * by) ≡ leb (n * by + d) largest
-  near-within h =
+  pub small-within : n * by ≤ largest → leb d (largest - n * by) ≡ leb (n * by + d) largest
+  small-within h =
       by-lt largest (n * by + d)
       (λ g. lt-leb d (largest - n * by) (omega arith) ∙ sym (lt-leb (n * by + d) largest g))
       (λ g. le-leb d (largest - n * by) (omega arith) ∙ sym (le-leb (n * by + d) largest g))

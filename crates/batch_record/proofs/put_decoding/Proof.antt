@@ -16,15 +16,15 @@ use Rattle.batch_record.proofs.put_decoding.Statement.{statement}
 use Rattle.batch_record.proofs.put_decoding.Tie as tie
 
 -- what decoding came to, in each arm
-written-told : (c : tie.After-d2) →
+written-is : (c : tie.After-d2) →
     let a = c .before .before .before .before .before .before .before .before .before .args in
     decodeAt (a .code) (a .text .now) (length (a .out .now)) ≡ written (c .d2 .given .0 .0)
-written-told c = sym (c .before .before .before .before .decode .ensures .0) ∙ ap decodedOf (c .d2 .given .1)
+written-is c = sym (c .before .before .before .before .decode .ensures .0) ∙ ap decodedOf (c .d2 .given .1)
 
-refused-told : (c : tie.After-d) →
+refused-is : (c : tie.After-d) →
     let a = c .before .before .before .before .before .before .before .before .before .args in
     decodeAt (a .code) (a .text .now) (length (a .out .now)) ≡ refusal (numberOf (c .d .given .0 .0)) (placeOf (c .d .given .0 .1 .0))
-refused-told c = sym (c .before .before .before .before .decode .ensures .0) ∙ ap decodedOf (c .d .given .1)
+refused-is c = sym (c .before .before .before .before .decode .ensures .0) ∙ ap decodedOf (c .d .given .1)
 
 decode-requires : tie.Need-decode-requires
 decode-requires c κs = search needs
@@ -42,7 +42,7 @@ put-ok-requires : tie.Need-put-ok-requires
 put-ok-requires c κs = search needs
 
 add-written-requires : tie.Need-add-written-requires
-add-written-requires c κs = omega (arith, laws.decoded-fits _ _ _ (written-told (c .before .before .before .before .before .before .before)), c .before .before .before .before .put-ok .ensures .1, c .before .before .before .before .before .before .before .before .before .before .before .before .before .before .before .before .pre)
+add-written-requires c κs = omega (arith, laws.decoded-fits _ _ _ (written-is (c .before .before .before .before .before .before .before)), c .before .before .before .before .put-ok .ensures .1, c .before .before .before .before .before .before .before .before .before .before .before .before .before .before .before .before .pre)
 
 same-length : tie.Need-same-length
 same-length c = search needs
@@ -54,7 +54,7 @@ returns : tie.Need-returns
 unfolding decodingLine
 returns c =
     let d = c .before .before .before .before .before .before .before .before .before .before .decode .ensures in
-    ((rw (refused-told (c .before .before .before .before .before .before), ← d .1 .0) (c .before .before .put-refused .ensures .0), omega (arith, c .before .before .put-refused .ensures .1)), d .1 .0)
+    ((rw (refused-is (c .before .before .before .before .before .before), ← d .1 .0) (c .before .before .put-refused .ensures .0), omega (arith, c .before .before .put-refused .ensures .1)), d .1 .0)
 
 same-length-3 : tie.Need-same-length-3
 same-length-3 c = search needs
@@ -68,7 +68,7 @@ returns-2 c =
     let d = c .before .before .before .before .before .before .before .before .before .before .before .before .before .before .decode .ensures in
     let p = c .before .before .before .before .before .before .before .put-ok .ensures in
     let q = c .before .before .add-written .ensures in
-    ((rw (written-told (c .before .before .before .before .before .before .before .before .before .before), ← d .1 .0) (lines.also (p .0) (q .0)), omega (arith, p .1, q .1, laws.decoded-fits _ _ _ (written-told (c .before .before .before .before .before .before .before .before .before .before)))), d .1 .0)
+    ((rw (written-is (c .before .before .before .before .before .before .before .before .before .before), ← d .1 .0) (lines.also (p .0) (q .0)), omega (arith, p .1, q .1, laws.decoded-fits _ _ _ (written-is (c .before .before .before .before .before .before .before .before .before .before)))), d .1 .0)
 
 pub put-decoding-spec : {M : Type 1} → statement M
 put-decoding-spec =

@@ -12,15 +12,15 @@ use Rattle.batch_record.proofs.put_form.Statement.{statement}
 use Rattle.batch_record.proofs.put_form.Tie as tie
 
 -- what settling came to, in each arm
-formed-told : (c : tie.After-s2) →
+formed-is : (c : tie.After-s2) →
     let a = c .before .before .before .before .before .before .before .before .before .args in
     settleAt (a .text .now) (length (a .out .now)) ≡ formed (c .s2 .given .0 .0) (c .s2 .given .0 .1 .0)
-formed-told c = sym (c .before .before .before .before .settle .ensures .0) ∙ ap settledOf (c .s2 .given .1)
+formed-is c = sym (c .before .before .before .before .settle .ensures .0) ∙ ap settledOf (c .s2 .given .1)
 
-refused-told : (c : tie.After-s) →
+refused-is : (c : tie.After-s) →
     let a = c .before .before .before .before .before .before .before .before .before .args in
     settleAt (a .text .now) (length (a .out .now)) ≡ refusal (numberOf (c .s .given .0 .0)) (placeOf (c .s .given .0 .1 .0))
-refused-told c = sym (c .before .before .before .before .settle .ensures .0) ∙ ap settledOf (c .s .given .1)
+refused-is c = sym (c .before .before .before .before .settle .ensures .0) ∙ ap settledOf (c .s .given .1)
 
 settle-requires : tie.Need-settle-requires
 settle-requires c κs = search needs
@@ -35,7 +35,7 @@ enum-known-s-2 : tie.Need-enum-known-s-2
 enum-known-s-2 c = search needs
 
 put-formed-requires : tie.Need-put-formed-requires
-put-formed-requires c κs = omega (arith, laws.settled-fits _ _ (formed-told (c .before .before .before)), c .before .before .before .before .before .before .before .before .before .before .before .before .pre)
+put-formed-requires c κs = omega (arith, laws.settled-fits _ _ (formed-is (c .before .before .before)), c .before .before .before .before .before .before .before .before .before .before .before .before .pre)
 
 same-length : tie.Need-same-length
 same-length c = search needs
@@ -44,7 +44,7 @@ same-length-2 : tie.Need-same-length-2
 same-length-2 c = search needs
 
 returns : tie.Need-returns
-returns c = ((rw (refused-told (c .before .before .before .before .before)) (c .before .before .put-refusal .ensures .0), omega (arith, c .before .before .put-refusal .ensures .1)), c .before .before .before .before .before .before .before .before .before .settle .ensures .1 .0)
+returns c = ((rw (refused-is (c .before .before .before .before .before)) (c .before .before .put-refusal .ensures .0), omega (arith, c .before .before .put-refusal .ensures .1)), c .before .before .before .before .before .before .before .before .before .settle .ensures .1 .0)
 
 same-length-3 : tie.Need-same-length-3
 same-length-3 c = search needs
@@ -57,7 +57,7 @@ returns-2 c =
     let d = c .before .before .before .before .before .before .before .before .before .before .settle .ensures in
     let a = c .before .before .before .before .before .before .before .before .before .before .before .before .before .before .before .args in
     let p = c .before .before .put-formed .ensures in
-    ((rw (formed-told (c .before .before .before .before .before .before), ← laws.form-written (a .text .now) (a .out .now) (formed-told (c .before .before .before .before .before .before)), ← d .1 .0) (p .0), omega (arith, p .1, laws.settled-fits _ _ (formed-told (c .before .before .before .before .before .before)))), d .1 .0)
+    ((rw (formed-is (c .before .before .before .before .before .before), ← laws.form-written (a .text .now) (a .out .now) (formed-is (c .before .before .before .before .before .before)), ← d .1 .0) (p .0), omega (arith, p .1, laws.settled-fits _ _ (formed-is (c .before .before .before .before .before .before)))), d .1 .0)
 
 pub put-form-spec : {M : Type 1} → statement M
 put-form-spec =

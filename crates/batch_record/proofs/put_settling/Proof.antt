@@ -14,15 +14,15 @@ use Rattle.batch_record.proofs.put_settling.Statement.{statement}
 use Rattle.batch_record.proofs.put_settling.Tie as tie
 
 -- what settling came to, in each arm
-formed-told : (c : tie.After-s2) →
+formed-is : (c : tie.After-s2) →
     let a = c .before .before .before .before .before .before .before .before .before .args in
     settleAt (a .text .now) (length (a .out .now)) ≡ formed (c .s2 .given .0 .0) (c .s2 .given .0 .1 .0)
-formed-told c = sym (c .before .before .before .before .settle .ensures .0) ∙ ap settledOf (c .s2 .given .1)
+formed-is c = sym (c .before .before .before .before .settle .ensures .0) ∙ ap settledOf (c .s2 .given .1)
 
-refused-told : (c : tie.After-s) →
+refused-is : (c : tie.After-s) →
     let a = c .before .before .before .before .before .before .before .before .before .args in
     settleAt (a .text .now) (length (a .out .now)) ≡ refusal (numberOf (c .s .given .0 .0)) (placeOf (c .s .given .0 .1 .0))
-refused-told c = sym (c .before .before .before .before .settle .ensures .0) ∙ ap settledOf (c .s .given .1)
+refused-is c = sym (c .before .before .before .before .settle .ensures .0) ∙ ap settledOf (c .s .given .1)
 
 settle-requires : tie.Need-settle-requires
 settle-requires c κs = search needs
@@ -43,7 +43,7 @@ put-kind-requires : tie.Need-put-kind-requires
 put-kind-requires c κs = search needs
 
 add-written-requires : tie.Need-add-written-requires
-add-written-requires c κs = omega (arith, laws.settled-fits _ _ (formed-told (c .before .before .before .before .before .before .before)), c .before .before .before .before .put-kind .ensures .1, c .before .before .before .before .before .before .before .before .before .before .before .before .before .before .before .before .pre)
+add-written-requires c κs = omega (arith, laws.settled-fits _ _ (formed-is (c .before .before .before .before .before .before .before)), c .before .before .before .before .put-kind .ensures .1, c .before .before .before .before .before .before .before .before .before .before .before .before .before .before .before .before .pre)
 
 same-length : tie.Need-same-length
 same-length c = search needs
@@ -55,7 +55,7 @@ returns : tie.Need-returns
 unfolding settlingLine
 returns c =
     let d = c .before .before .before .before .before .before .before .before .before .before .settle .ensures in
-    ((rw (refused-told (c .before .before .before .before .before .before), ← d .1 .0) (c .before .before .put-refused .ensures .0), omega (arith, c .before .before .put-refused .ensures .1)), d .1 .0)
+    ((rw (refused-is (c .before .before .before .before .before .before), ← d .1 .0) (c .before .before .put-refused .ensures .0), omega (arith, c .before .before .put-refused .ensures .1)), d .1 .0)
 
 same-length-3 : tie.Need-same-length-3
 same-length-3 c = search needs
@@ -69,7 +69,7 @@ returns-2 c =
     let d = c .before .before .before .before .before .before .before .before .before .before .before .before .before .before .settle .ensures in
     let p = c .before .before .before .before .before .before .before .put-kind .ensures in
     let q = c .before .before .add-written .ensures in
-    ((rw (formed-told (c .before .before .before .before .before .before .before .before .before .before), ← d .1 .0) (lines.also (p .0) (q .0)), omega (arith, p .1, q .1, laws.settled-fits _ _ (formed-told (c .before .before .before .before .before .before .before .before .before .before)))), d .1 .0)
+    ((rw (formed-is (c .before .before .before .before .before .before .before .before .before .before), ← d .1 .0) (lines.also (p .0) (q .0)), omega (arith, p .1, q .1, laws.settled-fits _ _ (formed-is (c .before .before .before .before .before .before .before .before .before .before)))), d .1 .0)
 
 pub put-settling-spec : {M : Type 1} → statement M
 put-settling-spec =

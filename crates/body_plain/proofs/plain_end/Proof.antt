@@ -12,12 +12,12 @@ use Rattle.body_plain.proofs.Blocks.{run-rest}
 use Rattle.body_plain.proofs.plain_end.Statement.{statement}
 use Rattle.body_plain.proofs.plain_end.Tie as tie
 
-abbrev near : tie.After-block-end → tie.After-byte-run
-near c = c .before .before .before
+abbrev stop : tie.After-block-end → tie.After-byte-run
+stop c = c .before .before .before
 
 -- the run after the first bytes
 count : (c : tie.After-block-end) →
-    let b = near c in
+    let b = stop c in
     let a = b .before .before .before .args in
     c .block-end .result ≡ run (plainByte (a .k)) (drop (b .byte-run .result) (a .s .now))
 count c = c .block-end .ensures ∙ rw part-to-end (omega arith)
@@ -45,13 +45,13 @@ block-end-requires c κs = search needs
 
 add-result : tie.Need-add-result
 add-result c =
-    let b = near c in
+    let b = stop c in
     let e = b .before .before .before in
     let a = e .args in
     omega (arith, count c, run-rest _ _ _ _ _ (b .byte-run .ensures), run-le (plainByte (a .k)) (drop (a .from) (a .s .now)), length-drop (a .from) (a .s .now), e .pre, e .good)
 
 returns-2 : tie.Need-returns-2
-returns-2 c = omega (arith, count c, run-rest _ _ _ _ _ (near c .byte-run .ensures))
+returns-2 c = omega (arith, count c, run-rest _ _ _ _ _ (stop c .byte-run .ensures))
 
 pub plain-end-spec : {M : Type 1} → statement M
 plain-end-spec =

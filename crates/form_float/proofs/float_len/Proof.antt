@@ -41,15 +41,15 @@ returns : tie.Need-returns
 returns c =
     let e = c .before .before .scale .ensures in
     let g = c .enum-told .given .1 in
-    rw (forms.zero-near _ _ _ e g, forms.zero-form _ _ _ e g)
+    rw (forms.zero-in-range _ _ _ e g, forms.zero-form _ _ _ e g)
 
 returns-2 : tie.Need-returns-2
-returns-2 c = rw (forms.far-not-near _ _ _ (c .before .before .scale .ensures) (c .enum-told2 .given .1))
+returns-2 c = rw (forms.far-not-in-range _ _ _ (c .before .before .scale .ensures) (c .enum-told2 .given .1))
 
 returns-3 : tie.Need-returns-3
 returns-3 c =
     let f = found (c .before) in
-    rw (forms.found-near _ _ _ f, forms.found-form _ _ _ f) (ap known (c .scaled-len .ensures .0))
+    rw (forms.found-in-range _ _ _ f, forms.found-form _ _ _ f) (ap known (c .scaled-len .ensures .0))
 
 pub float-len-spec : {M : Type 1} → statement M
 float-len-spec =

@@ -56,7 +56,7 @@ returns c = rw (zero (c .before .before .before .before)) (c .before .before .pu
 returns-2 : tie.Need-returns-2
 returns-2 c =
     clash (c .before .before .before .before .before .pre .1 .0)
-    (forms.far-not-near _ _ _ (c .before .before .scale .ensures) (c .enum-told2 .given .1))
+    (forms.far-not-in-range _ _ _ (c .before .before .scale .ensures) (c .enum-told2 .given .1))
 
 same-length-2 : tie.Need-same-length-2
 same-length-2 c = search needs

@@ -9,7 +9,7 @@ use lib.ListN.{length, drop}
 use Rattle.buffer.specs.Buffer.{Wrote}
 use Rattle.escape.specs.declared.Allowed.the-variants.{Text, Bytes, C}
 use Rattle.form_reading.proofs.Readings.{short, utf8, bool-text, float-read, char-scalar, string-read}
-use Rattle.form_reading.proofs.Lengths.{no-len, float-near}
+use Rattle.form_reading.proofs.Lengths.{no-len, float-in-range}
 use Rattle.form_reading.proofs.put_bare.Statement.{statement}
 use Rattle.form_reading.proofs.put_bare.Tie as tie
 
@@ -40,7 +40,7 @@ put-float-requires : tie.Need-put-float-requires
 put-float-requires c κs =
     let f = c .before .before .found2 in
     let p = rw (f .given .1) at (c .before .before .before .before .before .before .pre) in
-    ((short _ (p .0), float-read _ (f .given .0 .0) (p .0)), (float-near _ _ (p .1 .form), p .1 .fits))
+    ((short _ (p .0), float-read _ (f .given .0 .0) (p .0)), (float-in-range _ _ (p .1 .form), p .1 .fits))
 
 enum-known-found-3 : tie.Need-enum-known-found-3
 enum-known-found-3 c = search needs

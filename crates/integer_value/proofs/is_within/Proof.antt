@@ -2,7 +2,7 @@
 -- Assumes nothing.
 use Prim.Native.Nat.{_*_, _/_, _≤_, _<_}
 use native.Mathlib.Omega.{arith}
-use Rattle.integer_value.proofs.Numbers.{past-within, near-product, near-within}
+use Rattle.integer_value.proofs.Numbers.{past-within, small-product, small-within}
 use Rattle.integer_value.proofs.is_within.Statement.{statement}
 use Rattle.integer_value.proofs.is_within.Tie as tie
 
@@ -17,7 +17,7 @@ product : (c : tie.Else1) → let a = c .before .args in a .n * a .by ≤ a .lar
 product c =
     let s = c .before in
     let near : s .args .n ≤ s .args .largest / s .args .by = omega (arith, c .if1 .left, s .pre .0) in
-    near-product (s .args .n) (s .args .d) (s .args .by) (s .args .largest) (s .pre .1) near
+    small-product (s .args .n) (s .args .d) (s .args .by) (s .args .largest) (s .pre .1) near
 
 mul-result : tie.Need-mul-result
 mul-result c = omega (arith, product c)
@@ -28,7 +28,7 @@ sub-result c = product c
 returns-2 : tie.Need-returns-2
 returns-2 c =
     let s = c .before in
-    near-within (s .args .n) (s .args .d) (s .args .by) (s .args .largest) (s .pre .1) (product c)
+    small-within (s .args .n) (s .args .d) (s .args .by) (s .args .largest) (s .pre .1) (product c)
 
 pub is-within-spec : {M : Type 1} → statement M
 is-within-spec = tie.close (tie.spec returns mul-result sub-result returns-2)
