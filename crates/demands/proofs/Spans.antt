@@ -16,10 +16,10 @@ use Rattle.types.specs.declared.Largest.the-variants.{Value, NoValues}
 use Rattle.escape.specs.declared.Allowed.{Allowed}
 use Rattle.escape.specs.declared.Allowed.the-variants.{Text, Bytes, C}
 use Rattle.integer.specs.Integer.{baseAt, mainPart, integerRead}
-use Rattle.integer_value.specs.Value.{Valued, number, bounded, integerLitValue}
+use Rattle.integer_value.specs.Value.{number, bounded, integerLitValue}
 use Rattle.integer_value.specs.Value as valued
 use Rattle.string.specs.String.{stringKind, stringRead, stringValue}
-use Rattle.string.specs.Decode.{Decode, ofReading, stringDecoded}
+use Rattle.string.specs.Decode.{ofReading, stringDecoded}
 use Rattle.grammar.specs.Meaning.{Worth}
 use Rattle.grammar.specs.Meaning as worth
 use Rattle.form.specs.Form.{formOf, faultOf}
@@ -33,7 +33,7 @@ use Rattle.literal.specs.declared.KindFound.{KindFound}
 use Rattle.literal.proofs.Answers.{read-own}
 use Rattle.form_reading.specs.Worths.{worthOf}
 use Rattle.settle.specs.Settled.{FormAnswer, measured, measureOf, measureAt, fitted, settleAt}
-use Rattle.demands.specs.Demand1.{Numbered, Answered, SpanBy, SpanAnswers}
+use Rattle.demands.specs.Demand1.{Answered, SpanBy, SpanAnswers}
 use Rattle.demands.proofs.ReadCall.{read-answers}
 
 -- ---- what a call returns has its span by reading with the code

@@ -6,8 +6,7 @@ use mathlib.Core.List.{List, [], _∷_}
 use lib.Dec.{eqb, ltb}
 use lib.ListN.{length, getD, take, drop}
 use Rattle.err.specs.Outcome.{Outcome, refused, accepted, none, between, ends}
-use Rattle.err.specs.Numbers.{numberOf}
-use Rattle.err.specs.Reading.{placeOf, outcomeOf}
+use Rattle.err.specs.Reading.{outcomeOf}
 use Rattle.err.specs.declared.Reading.the-variants as reading
 use Rattle.scan.specs.Run.{run}
 use Rattle.scan.specs.Sets.{only}

@@ -7,8 +7,7 @@ use mathlib.Core.List.{List, [], _∷_}
 use lib.Dec.{eqb}
 use lib.ListN.{length, getD, take, drop}
 use Rattle.err.specs.Outcome.{Outcome, refused, accepted, none, between, digits}
-use Rattle.err.specs.Numbers.{numberOf}
-use Rattle.err.specs.Reading.{placeOf, baseOf, prefixOf, outcomeOf}
+use Rattle.err.specs.Reading.{baseOf, prefixOf, outcomeOf}
 use Rattle.err.specs.declared.IntegerBase.{IntegerBase}
 use Rattle.err.specs.declared.IntegerLit.{IntegerLit}
 use Rattle.err.specs.declared.Reading.the-variants as reading

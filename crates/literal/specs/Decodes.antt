@@ -5,8 +5,6 @@ use mathlib.Core.Bool.{cond}
 use mathlib.Core.List.{List}
 use lib.Dec.{eqb}
 use Rattle.err.specs.Outcome.{none}
-use Rattle.err.specs.Numbers.{numberOf}
-use Rattle.err.specs.Reading.{placeOf}
 use Rattle.err.specs.declared.ParseErrorKind.the-variants.{InvalidLiteral}
 use Rattle.err.specs.declared.Span.the-variants.{Nowhere}
 use Rattle.err.specs.declared.Reading.{Reading}
