@@ -129,7 +129,7 @@ pub fn packed_at(s: &[u8], at: usize, end: usize, k: Allowed) -> u64
     let next = at + 1;
     if s[next] == b'\n' {
         let from = at + 2;
-        let n = parse::blanks_len(&s[from..]);
+        let n = parse::run_len(&s[from..], ClassSet::Blanks);
         if from + n == s.len() {
             return 0;
         }

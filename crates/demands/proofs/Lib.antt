@@ -22,3 +22,4 @@ pub mod Worths
 pub mod Settling
 pub mod FormText
 pub mod Demand3
+pub mod ByteClasses

@@ -8,7 +8,7 @@ use native.Mathlib.Omega.{arith}
 use lib.Dec.{T, leb, ltb, eqb, eqb→eq}
 use borrow.Author.Tests.{ltb-true, leb-true, eqb-true, lt-ltb, le-ltb, le-leb, lt-leb, ne-eqb}
 use Rattle.scan.proofs.Cases.{by-lt, cond-lt, clash}
-use Rattle.scan.proofs.Tables.{everyBelow, below, alike, agreed}
+use Rattle.scan.proofs.Below.{everyBelow, below, alike, agreed}
 use Rattle.parse.specs.Class.{classOf, within}
 use Rattle.parse.specs.Sets.{inClass, inSet, digit, suffixRest, blank, decDigit, hexDigitOf}
 use Rattle.parse.specs.declared.ClassSet.{ClassSet}

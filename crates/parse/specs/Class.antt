@@ -1,11 +1,8 @@
 -- The class of a byte, as document 01 has it (From bytes to a meaning, Bytes).
 -- Assumes nothing.
-use Prim.Native.Nat.{ℕ, _-_, _<_}
-use mathlib.Core.Path.{_≡_}
+use Prim.Native.Nat.{ℕ, _-_}
 use mathlib.Core.Bool.{Bool, cond, _&&_, _||_}
-use mathlib.Core.List.{List}
 use lib.Dec.{leb, ltb, eqb}
-use lib.ListN.{getD}
 
 -- from a to e, both included
 abbrev pub within : ℕ → ℕ → ℕ → Bool
@@ -22,7 +19,3 @@ classOf b =
     (cond (within 97 122 b || within 65 90 b) 17
     (cond (eqb b 32 || (eqb b 9 || eqb b 10)) 18
     (cond (ltb b 128) 19 20))))))
-
--- 01: "One table of 256 entries classes every byte"
-abbrev pub Classes : List ℕ → Type 0
-Classes t = (b : ℕ) → b < 256 → getD t b 0 ≡ classOf b

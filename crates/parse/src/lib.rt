@@ -2,269 +2,8 @@
 ghost use mathlib.Core.Path.{_≡_};
 ghost use Prim.Native.Nat.{_<_};
 ghost use Rattle.scan.specs.Run.{run};
-ghost use Rattle.parse.specs.Class.{classOf, Classes};
-ghost use Rattle.parse.specs.Sets.{blank, decDigit, inSet, inClass, hexDigitOf, startsE};
-
-// The class of each byte: hex digit value 0 to 15; 16 `_`; 17 other ASCII letter; 18 space, tab, LF; 19 other ASCII;
-// 20 above 127.
-const CLASSES: [u8; 256] = [
-    19,
-    19,
-    19,
-    19,
-    19,
-    19,
-    19,
-    19,
-    19,
-    18,
-    18,
-    19,
-    19,
-    19,
-    19,
-    19,
-    19,
-    19,
-    19,
-    19,
-    19,
-    19,
-    19,
-    19,
-    19,
-    19,
-    19,
-    19,
-    19,
-    19,
-    19,
-    19,
-    18,
-    19,
-    19,
-    19,
-    19,
-    19,
-    19,
-    19,
-    19,
-    19,
-    19,
-    19,
-    19,
-    19,
-    19,
-    19,
-    0,
-    1,
-    2,
-    3,
-    4,
-    5,
-    6,
-    7,
-    8,
-    9,
-    19,
-    19,
-    19,
-    19,
-    19,
-    19,
-    19,
-    10,
-    11,
-    12,
-    13,
-    14,
-    15,
-    17,
-    17,
-    17,
-    17,
-    17,
-    17,
-    17,
-    17,
-    17,
-    17,
-    17,
-    17,
-    17,
-    17,
-    17,
-    17,
-    17,
-    17,
-    17,
-    17,
-    19,
-    19,
-    19,
-    19,
-    16,
-    19,
-    10,
-    11,
-    12,
-    13,
-    14,
-    15,
-    17,
-    17,
-    17,
-    17,
-    17,
-    17,
-    17,
-    17,
-    17,
-    17,
-    17,
-    17,
-    17,
-    17,
-    17,
-    17,
-    17,
-    17,
-    17,
-    17,
-    19,
-    19,
-    19,
-    19,
-    19,
-    20,
-    20,
-    20,
-    20,
-    20,
-    20,
-    20,
-    20,
-    20,
-    20,
-    20,
-    20,
-    20,
-    20,
-    20,
-    20,
-    20,
-    20,
-    20,
-    20,
-    20,
-    20,
-    20,
-    20,
-    20,
-    20,
-    20,
-    20,
-    20,
-    20,
-    20,
-    20,
-    20,
-    20,
-    20,
-    20,
-    20,
-    20,
-    20,
-    20,
-    20,
-    20,
-    20,
-    20,
-    20,
-    20,
-    20,
-    20,
-    20,
-    20,
-    20,
-    20,
-    20,
-    20,
-    20,
-    20,
-    20,
-    20,
-    20,
-    20,
-    20,
-    20,
-    20,
-    20,
-    20,
-    20,
-    20,
-    20,
-    20,
-    20,
-    20,
-    20,
-    20,
-    20,
-    20,
-    20,
-    20,
-    20,
-    20,
-    20,
-    20,
-    20,
-    20,
-    20,
-    20,
-    20,
-    20,
-    20,
-    20,
-    20,
-    20,
-    20,
-    20,
-    20,
-    20,
-    20,
-    20,
-    20,
-    20,
-    20,
-    20,
-    20,
-    20,
-    20,
-    20,
-    20,
-    20,
-    20,
-    20,
-    20,
-    20,
-    20,
-    20,
-    20,
-    20,
-    20,
-    20,
-    20,
-    20,
-    20,
-    20,
-    20,
-    20,
-    20,
-    20,
-    20,
-    20,
-    20,
-];
+ghost use Rattle.parse.specs.Class.{classOf};
+ghost use Rattle.parse.specs.Sets.{decDigit, inSet, inClass, hexDigitOf, startsE};
 
 // Below `0`.
 fn low_class(b: u8) -> u8
@@ -287,7 +26,8 @@ fn middle_class(b: u8) -> u8
     if b == b'_' { 16 } else { 19 }
 }
 
-// The class of one byte, by comparisons. A scan by `run_len` looks them up in the table.
+// The class of a byte, by comparisons (02, e). 01's list: hex digit value 0 to 15; 16 `_`; 17 other ASCII letter; 18 space, tab, LF;
+// 19 other ASCII; 20 above 127.
 pub fn class_of(b: u8) -> u8
     ensures { λ r. ⌜ r ≡ classOf b ⌝ }
 {
@@ -318,14 +58,6 @@ pub fn class_of(b: u8) -> u8
     if b < 128 { 19 } else { 20 }
 }
 
-// The class of a byte by a copy of the table, which a scan makes once.
-fn class_in(classes: &[u8; 256], b: u8) -> u8
-    requires { ⌜ Classes (now classes) ⌝ }
-    ensures { λ r. ⌜ r ≡ classOf b ⌝ }
-{
-    classes[b as usize]
-}
-
 // A set of bytes that a scan passes over: the digits below a base and `_`; what may follow in a suffix; what a dropped line break drops.
 pub enum ClassSet {
     Digits(u8),
@@ -344,48 +76,18 @@ fn is_in(class: u8, set: ClassSet) -> bool
     }
 }
 
-// How many bytes at the front are in the set, by the table.
+// How many bytes at the front are in the set.
 pub fn run_len(s: &[u8], set: ClassSet) -> usize
     ensures { λ r. ⌜ r ≡ run (inSet set) (now (s .entry)) ⌝ }
 {
-    if s.len() == 0 {
-        return 0;
-    }
-    let classes = CLASSES;
     let mut i = 0;
     while i < s.len() {
-        if !is_in(class_in(&classes, s[i]), set) {
+        if !is_in(class_of(s[i]), set) {
             return i;
         }
         i += 1;
     }
     i
-}
-
-// How many spaces, tabs and LFs stand at the front.
-pub fn blanks_len(s: &[u8]) -> usize
-    ensures { λ r. ⌜ r ≡ run blank (now (s .entry)) ⌝ }
-{
-    let mut i = 0;
-    while i < s.len() {
-        if !is_blank(s[i]) {
-            return i;
-        }
-        i += 1;
-    }
-    i
-}
-
-// Whether a byte is dropped after a backslash and a line feed.
-fn is_blank(b: u8) -> bool
-    ensures { λ r. ⌜ r ≡ blank b ⌝ }
-{
-    match b {
-        b' ' => true,
-        b'\t' => true,
-        b'\n' => true,
-        _ => false,
-    }
 }
 
 // A hex digit's value, or that a byte is none.

@@ -1,5 +1,5 @@
 pub mod Cases
-pub mod Tables
+pub mod Below
 pub mod Parts
 pub mod Runs
 pub mod Sames

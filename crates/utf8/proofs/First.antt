@@ -5,7 +5,7 @@ use mathlib.Core.Bool.{Bool, cond}
 use Prim.Native.Nat.{ℕ, _-_, _<_}
 use lib.Dec.{ltb, eqb, eqb→eq}
 use lib.Count.{leadingZeros}
-use Rattle.scan.proofs.Tables.{below}
+use Rattle.scan.proofs.Below.{below}
 use Rattle.utf8.specs.Decode.{leadingOnes, lengthFrom}
 
 -- the length by the count of leading ones

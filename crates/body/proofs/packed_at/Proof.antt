@@ -21,13 +21,13 @@ there : (b : tie.After-shared-slice-known3) → entry b .args .at < length (entr
 there b = search needs
 
 -- the blanks after a line break
-abbrev break : tie.After-blanks-len → tie.After-shared-slice-known3
+abbrev break : tie.After-run-len → tie.After-shared-slice-known3
 break c = c .before .before .before
 
-count : (c : tie.After-blanks-len) → c .blanks-len .result ≡ run blank (drop (entry (break c) .args .at + 2) (entry (break c) .args .s .now))
-count c = c .blanks-len .ensures ∙ rw part-to-end
+count : (c : tie.After-run-len) → c .run-len .result ≡ run blank (drop (entry (break c) .args .at + 2) (entry (break c) .args .s .now))
+count c = c .run-len .ensures ∙ rw part-to-end
 
-blanks-in : (c : tie.After-blanks-len) → entry (break c) .args .at + 2 + c .blanks-len .result ≤ length (entry (break c) .args .s .now)
+blanks-in : (c : tie.After-run-len) → entry (break c) .args .at + 2 + c .run-len .result ≤ length (entry (break c) .args .s .now)
 blanks-in c =
     let a = entry (break c) .args in
     let l = break c .before .before .before .if1 .left in
@@ -54,17 +54,17 @@ shared-slice-read-if3 c = search needs
 add-from : tie.Need-add-from
 add-from c = search needs
 
-sub-blanks-len : tie.Need-sub-blanks-len
-sub-blanks-len c = search needs
+sub-run-len : tie.Need-sub-run-len
+sub-run-len c = search needs
 
-part-blanks-len-start : tie.Need-part-blanks-len-start
-part-blanks-len-start c = search needs
+part-run-len-start : tie.Need-part-run-len-start
+part-run-len-start c = search needs
 
-part-blanks-len-end : tie.Need-part-blanks-len-end
-part-blanks-len-end c = search needs
+part-run-len-end : tie.Need-part-run-len-end
+part-run-len-end c = search needs
 
-blanks-len-requires : tie.Need-blanks-len-requires
-blanks-len-requires c κs = search needs
+run-len-requires : tie.Need-run-len-requires
+run-len-requires c κs = search needs
 
 add-if4 : tie.Need-add-if4
 add-if4 c = omega (arith, blanks-in c, entry (break c) .pre)
@@ -120,10 +120,10 @@ packed-at-spec =
     add-next
     shared-slice-read-if3
     add-from
-    sub-blanks-len
-    part-blanks-len-start
-    part-blanks-len-end
-    blanks-len-requires
+    sub-run-len
+    part-run-len-start
+    part-run-len-end
+    run-len-requires
     add-if4
     returns-3
     add-packed-nothing
