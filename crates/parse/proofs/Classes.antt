@@ -40,23 +40,6 @@ within-ends a e b t = let p = both (leb a b) (leb b e) t in (leb-true a b (p .0)
 
 -- ---- the class
 
-pub class-above : (b : ℕ) → 128 ≤ b → classOf b ≡ 20
-unfolding classOf
-class-above b h =
-    rw (within-above 48 57 b (omega arith), within-above 97 102 b (omega arith), within-above 65 70 b (omega arith), ne-eqb b 95 (omega arith), within-above 97 122 b (omega arith), within-above 65 90 b (omega arith), ne-eqb b 32 (omega arith), ne-eqb b 9 (omega arith), ne-eqb b 10 (omega arith), le-ltb b 128 h)
-
--- two tests that agree below 128 and from 128 on are one
-pub everywhere : (f g : ℕ → Bool) → T (everyBelow (λ b. alike (f b) (g b)) 128) → ((b : ℕ) → 128 ≤ b → f b ≡ g b) → (b : ℕ) → f b ≡ g b
-everywhere f g t h b = by-lt b 128 (agreed f g 128 t b) (h b)
-
-pub class-underscore : classOf 95 ≡ 16
-unfolding classOf
-class-underscore = refl
-
-pub class-underscore-is : (b : ℕ) → eqb (classOf b) 16 ≡ eqb b 95
-unfolding classOf
-class-underscore-is = everywhere (λ b. eqb (classOf b) 16) (λ b. eqb b 95) tt (λ b h. rw (class-above b h, ne-eqb b 95 (omega arith)))
-
 -- the class of the n bytes from a on, by a test of each
 pub class-from : (f : ℕ → ℕ) (a n : ℕ) → T (everyBelow (λ k. eqb (classOf (a + k)) (f (a + k))) n) → (b : ℕ) → a ≤ b → b < a + n → classOf b ≡ f b
 class-from f a n t b h g =
@@ -74,6 +57,23 @@ class-upper-hex b h g = class-from (λ b. b - 55) 65 6 tt b h (omega arith)
 pub class-lower-hex : (b : ℕ) → 97 ≤ b → b ≤ 102 → classOf b ≡ b - 87
 unfolding classOf
 class-lower-hex b h g = class-from (λ b. b - 87) 97 6 tt b h (omega arith)
+
+pub class-above : (b : ℕ) → 128 ≤ b → classOf b ≡ 20
+unfolding classOf
+class-above b h =
+    rw (within-above 48 57 b (omega arith), within-above 97 102 b (omega arith), within-above 65 70 b (omega arith), ne-eqb b 95 (omega arith), within-above 97 122 b (omega arith), within-above 65 90 b (omega arith), ne-eqb b 32 (omega arith), ne-eqb b 9 (omega arith), ne-eqb b 10 (omega arith), le-ltb b 128 h)
+
+-- two tests that agree below 128 and from 128 on are one
+pub everywhere : (f g : ℕ → Bool) → T (everyBelow (λ b. alike (f b) (g b)) 128) → ((b : ℕ) → 128 ≤ b → f b ≡ g b) → (b : ℕ) → f b ≡ g b
+everywhere f g t h b = by-lt b 128 (agreed f g 128 t b) (h b)
+
+pub class-underscore : classOf 95 ≡ 16
+unfolding classOf
+class-underscore = refl
+
+pub class-underscore-is : (b : ℕ) → eqb (classOf b) 16 ≡ eqb b 95
+unfolding classOf
+class-underscore-is = everywhere (λ b. eqb (classOf b) 16) (λ b. eqb b 95) tt (λ b h. rw (class-above b h, ne-eqb b 95 (omega arith)))
 
 -- a test of a byte by a set is a test of its class
 pub set-class : (set : ClassSet) (b : ℕ) → inSet set b ≡ inClass set (classOf b)
