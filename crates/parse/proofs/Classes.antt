@@ -1,4 +1,4 @@
--- What the classes say of bytes: each set told by class is one told by comparisons. A test of the 128 bytes below, and one class above.
+-- What a byte's class says of the byte: sets that are defined by class, as ranges of bytes. By a test of each byte below 128; all others have one class.
 -- Assumes nothing.
 use mathlib.Core.Path.{_≡_, refl, sym, _∙_}
 use mathlib.Core.Bool.{Bool, true, false, _&&_, _||_, and-false, or-true}
