@@ -1,11 +1,17 @@
 /*
  * The calls beside settling, the result of each on a line of its own.
  *
- *     calls {read ENTRY TEXT | value TYPE TEXT | decode ENTRY TEXT ROOM | suffix KIND NAME}
+ *     calls {read ENTRY TEXT | keyed TEXT | value TYPE TEXT | decode ENTRY TEXT ROOM | suffix KIND NAME}
  *
- * read prints the reading's five numbers. value prints what is returned, and what *value holds then, which was 7. decode prints what is
- * returned, and in hexadecimal what a buffer of ROOM bytes holds then, each of which was a5. suffix prints the code of the type that NAME
- * stands for, an integer type for KIND 2 and a float type for KIND 3. Anything else is said on standard error, with exit status 2.
+ * read and keyed print the eight numbers of a reading. value prints what is returned, and what *value holds then, which was 7. decode prints
+ * what is returned, and in hexadecimal what a buffer of ROOM bytes holds then, each of which was a5. suffix prints the code of the type that
+ * NAME stands for, an integer type for KIND 2 and a float type for KIND 3. Anything else is said on standard error, with exit status 2.
+ *
+ * A rating as it is typed in, and one with a key held down for 41 digits:
+ *
+ *     $ calls keyed 2143.5 keyed 18500000000000000000000000000000000000000
+ *     3 6 4 6 6 4 1 0
+ *     0 53 0 0 0 0 0 0
  */
 #include <stdio.h>
 #include <stdlib.h>
@@ -37,13 +43,26 @@ static uint64_t number_of(const char *word)
     return number;
 }
 
+static void print_numbers(const uint64_t *numbers)
+{
+    for (int i = 0; i < KEYBASKET_NUMBERS; i++)
+        printf(i == 0 ? "%llu" : " %llu", (unsigned long long)numbers[i]);
+    putchar('\n');
+}
+
 static void print_reading(uint64_t entry, const uint8_t *text, size_t len)
 {
     uint64_t *numbers = memory(KEYBASKET_NUMBERS * sizeof *numbers);
     keybasket_read(entry, text, len, numbers);
-    for (int i = 0; i < KEYBASKET_NUMBERS; i++)
-        printf(i == 0 ? "%llu" : " %llu", (unsigned long long)numbers[i]);
-    putchar('\n');
+    print_numbers(numbers);
+    free(numbers);
+}
+
+static void print_keyed(const uint8_t *text, size_t len)
+{
+    uint64_t *numbers = memory(KEYBASKET_NUMBERS * sizeof *numbers);
+    keybasket_read_keyed(text, len, numbers);
+    print_numbers(numbers);
     free(numbers);
 }
 
@@ -76,18 +95,21 @@ static void print_type(uint64_t kind, const uint8_t *name, size_t len)
 
 int main(int argc, char **argv)
 {
-    for (int i = 1; i < argc; i += 3) {
+    for (int i = 1, words; i < argc; i += words) {
         const char *call = argv[i];
-        int decodes = strcmp(call, "decode") == 0;
-        if (argc - i < 3 + decodes)
+        int keyed = strcmp(call, "keyed") == 0, decodes = strcmp(call, "decode") == 0;
+        words = 3 - keyed + decodes;
+        if (argc - i < words)
             fail("a word is missing");
-        uint64_t code = number_of(argv[i + 1]);
-        size_t len = strlen(argv[i + 2]);
+        uint64_t code = keyed ? KEYBASKET_ANY : number_of(argv[i + 1]);
+        const char *given = argv[keyed ? i + 1 : i + 2];
+        size_t len = strlen(given);
         uint8_t *text = memory(len);
-        memcpy(text, argv[i + 2], len);
-        if (decodes) {
+        memcpy(text, given, len);
+        if (keyed) {
+            print_keyed(text, len);
+        } else if (decodes) {
             print_decoded(code, text, len, number_of(argv[i + 3]));
-            i++;
         } else if (strcmp(call, "read") == 0) {
             print_reading(code, text, len);
         } else if (strcmp(call, "value") == 0) {
@@ -95,7 +117,7 @@ int main(int argc, char **argv)
         } else if (strcmp(call, "suffix") == 0) {
             print_type(code, text, len);
         } else {
-            fail("a call is read, value, decode or suffix");
+            fail("a call is read, keyed, value, decode or suffix");
         }
         free(text);
     }

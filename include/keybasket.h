@@ -1,6 +1,6 @@
 /*
- * Keybasket for C: reads a Rust literal, and gives an integer's value, a string's decoded bytes, the settled form, and the type that a
- * suffix names. x86-64 Linux. After `make install`: cc x.c $(pkg-config --cflags --libs keybasket)
+ * Keybasket for C: reads a Rust literal, also one that was typed in, and gives an integer's value, a string's decoded bytes, the settled
+ * form, and the type that a suffix names. x86-64 Linux. After `make install`: cc x.c $(pkg-config --cflags --libs keybasket)
  */
 #ifndef KEYBASKET_H
 #define KEYBASKET_H
@@ -25,8 +25,12 @@ enum {
      * A returned size_t below this is a length, or 0 for a value that was written. From here on it is this plus a refusal number.
      */
     KEYBASKET_REFUSED = 100000,
-    /* How many numbers keybasket_read writes. */
-    KEYBASKET_NUMBERS = 5
+    /*
+     * How many numbers keybasket_read and keybasket_read_keyed write: kind, start of suffix and up to six values. Earlier headers had 5 here.
+     * A program built with one of these must be built anew, since a call now writes eight numbers and would overrun an array of five. Write
+     * KEYBASKET_NUMBERS, not a number, as the length of the array.
+     */
+    KEYBASKET_NUMBERS = 8
 };
 
 /* Entry codes: what a text is read as. All but the first are also the kinds of literals. */
@@ -67,8 +71,8 @@ enum keybasket_type {
  * Why a text is refused: X(number, constant, name) for each refusal number, in order. The constants below and keybasket_refusal_name are
  * made from this list.
  *
- * Where several reasons hold, the number is the first of 42, 43, 44, a reading's own (1 to 41), 45 or 46, 47, 48. Which numbers a call can
- * return is said at the call.
+ * Where several reasons hold, the number is the first of 42, 43, 44, a reading's own (1 to 41), 45 or 46, 47, 48, 53. Which numbers a call can
+ * return is said at the call. 49 to 52 are not used.
  */
 #define KEYBASKET_REFUSALS(X)                                                           \
     X(1, KEYBASKET_EMPTY, "Empty")                                                      \
@@ -118,7 +122,8 @@ enum keybasket_type {
     X(45, KEYBASKET_NO_VALUE, "NoValue")                                                \
     X(46, KEYBASKET_POWER_TOO_FAR, "PowerTooFar")                                       \
     X(47, KEYBASKET_FORM_TOO_LONG, "FormTooLong")                                       \
-    X(48, KEYBASKET_OUT_TOO_SMALL, "OutTooSmall")
+    X(48, KEYBASKET_OUT_TOO_SMALL, "OutTooSmall")                                       \
+    X(53, KEYBASKET_TOO_MANY_DIGITS, "TooManyDigits")
 
 enum keybasket_refusal {
 #define KEYBASKET_CONSTANT_(number, constant, name) constant = number,
@@ -127,8 +132,8 @@ enum keybasket_refusal {
 };
 
 /*
- * Returns the name of a refusal number, "Empty" for 1 to "OutTooSmall" for 48, and "?" for every other number. Never null. The string is
- * constant and lasts as long as the program.
+ * Returns the name of a refusal number, "Empty" for 1 to "OutTooSmall" for 48 and "TooManyDigits" for 53, and "?" for every other number. Never
+ * null. The string is constant and lasts as long as the program.
  */
 static inline const char *keybasket_refusal_name(uint64_t number)
 {
@@ -160,7 +165,7 @@ static inline const char *keybasket_refusal_name(uint64_t number)
  */
 
 /*
- * Reads a text by an entry code, and writes all five numbers of the reading to numbers.
+ * Reads a text by an entry code, and writes all eight numbers of the reading to numbers.
  *
  *                  numbers[0]   [1]               [2]                    [3]                      [4]
  *     refused      0            refusal number    1, or 0 for no span    start of span, or 0      end of span, or 0
@@ -173,18 +178,38 @@ static inline const char *keybasket_refusal_name(uint64_t number)
  *     byte string  7            start of suffix   1 raw, 0 not raw       hashes, 0 if not raw     length of decoded value
  *     C string     8            start of suffix   1 raw, 0 not raw       hashes, 0 if not raw     length of decoded value
  *
+ *                  numbers[5]                   [6]                             [7]
+ *     integer      how many digits              0                               0
+ *     float        digits of integer part       digits of fractional part       digits of exponent
+ *     all others   0                            0                               0
+ *
  * Starts and ends are offsets into the text in bytes, at most text_len; an end is excluded. The suffix ends with the text, so it has
  * text_len - numbers[1] bytes.
  * - A refusal's span has start <= end <= text_len. From 42 on there is no span, and some of 1 to 41 have none.
  * - An integer's digits stand after the prefix of the base, and may hold `_`. The suffix starts where they end.
  * - A float's integer part starts at 0, its fractional part (with the period) where the integer part ends, and its exponent (with `e` or
  *   `E`) where the fractional part ends. A part that is missing ends where it starts. The suffix starts where the exponent ends.
+ * - The digits that count are the bytes of the part that are digits of the base, in base 16 also a to f and A to F. Leading zeros count. `_`
+ *   does not, nor does the prefix of the base, the period, or the `e` and the sign of an exponent. A part that is missing has 0 digits, and
+ *   so has a bare period.
  * - A decoded value has at most text_len bytes. A C string's has no closing zero byte.
  *
  * Returns nothing. Refusal numbers: 1 to 41; 42 for an entry code above 8; 43 for a text above KEYBASKET_LONGEST bytes; 44 for a text that is
  * not UTF-8.
  */
 void keybasket_read(uint64_t entry, const uint8_t *text, size_t text_len, uint64_t numbers[KEYBASKET_NUMBERS]);
+
+/*
+ * Reads a text that was typed in: as keybasket_read does by KEYBASKET_ANY, with the same eight numbers, but refuses a number with too many
+ * digits. Too many has
+ * - an integer with over 40 digits, in any base (numbers[5] by keybasket_read);
+ * - a float with over 40 digits in integer part and fractional part together (numbers[5] + numbers[6]), whatever its exponent has.
+ * The digits that count are those above: leading zeros do, `_` does not. No other kind has too many, not even a string of digits.
+ *
+ * Returns nothing. Refusal numbers, in this order: 43, 44, 1 to 41, all as keybasket_read writes them by KEYBASKET_ANY; then 53 for a number
+ * with too many digits. 53 has no span: numbers are {0, 53, 0, 0, 0, 0, 0, 0}.
+ */
+void keybasket_read_keyed(const uint8_t *text, size_t text_len, uint64_t numbers[KEYBASKET_NUMBERS]);
 
 /*
  * Reads a text as an integer, as keybasket_read does by KEYBASKET_INTEGER, and writes its number to *value where it is at most the largest

@@ -35,18 +35,57 @@ static void print_refused(uint64_t number, uint64_t spanned, uint64_t start, uin
     }
 }
 
+/* Before each call the numbers are none that a reading has, so one that is not written shows. */
+static void read_numbers(uint64_t entry, uint64_t numbers[KEYBASKET_NUMBERS])
+{
+    memset(numbers, FILL, KEYBASKET_NUMBERS * sizeof *numbers);
+    keybasket_read(entry, text, text_len, numbers);
+}
+
+static void read_keyed_numbers(uint64_t numbers[KEYBASKET_NUMBERS])
+{
+    memset(numbers, FILL, KEYBASKET_NUMBERS * sizeof *numbers);
+    keybasket_read_keyed(text, text_len, numbers);
+}
+
 /* A refusal by another call than reading: its span is that of the same refusal by an entry. */
 static void print_code(size_t answer, uint64_t entry)
 {
     uint64_t number = answer - KEYBASKET_REFUSED, reading[KEYBASKET_NUMBERS];
-    keybasket_read(entry, text, text_len, reading);
+    read_numbers(entry, reading);
     print_refused(number, reading[0] == 0 && reading[1] == number && reading[2], reading[3], reading[4]);
 }
 
-static void read_line(uint64_t entry)
+/* How many bytes of a part of the text are digits of a base. */
+static uint64_t digits(uint64_t base, uint64_t start, uint64_t end)
 {
-    uint64_t a[KEYBASKET_NUMBERS];
-    keybasket_read(entry, text, text_len, a);
+    static const char all[] = "0123456789abcdef";
+    uint64_t n = 0;
+    for (uint64_t i = start; i < end; i++) {
+        uint8_t b = text[i] >= 'A' && text[i] <= 'F' ? text[i] - 'A' + 'a' : text[i];
+        if (memchr(all, b, base))
+            n++;
+    }
+    return n;
+}
+
+/* The counts of a reading are those of its parts; what has no meaning is 0. Says so where they are not. */
+static void check_counts(const uint64_t a[KEYBASKET_NUMBERS])
+{
+    uint64_t counts[3] = {0};
+    if (a[0] == KEYBASKET_INTEGER) {
+        counts[0] = digits(a[2], a[3], a[4]);
+    } else if (a[0] == KEYBASKET_FLOAT) {
+        counts[0] = digits(10, 0, a[2]);
+        counts[1] = digits(10, a[2], a[3]);
+        counts[2] = digits(10, a[3], a[4]);
+    }
+    if (memcmp(a + 5, counts, sizeof counts) != 0)
+        printf(" miscounted");
+}
+
+static void print_reading(const uint64_t a[KEYBASKET_NUMBERS])
+{
     if (a[0] == 0) {
         print_refused(a[1], a[2], a[3], a[4]);
         return;
@@ -76,6 +115,29 @@ static void read_line(uint64_t entry)
             printf(a[3] == 0 ? " -" : " and more");
         print(a[4]);
     }
+}
+
+static void read_line(uint64_t entry)
+{
+    uint64_t a[KEYBASKET_NUMBERS];
+    read_numbers(entry, a);
+    print_reading(a);
+    check_counts(a);
+}
+
+/* The line of a reading, and then the counts of an integer or a float. */
+static void keyed_line(void)
+{
+    uint64_t a[KEYBASKET_NUMBERS];
+    read_keyed_numbers(a);
+    print_reading(a);
+    if (a[0] == KEYBASKET_INTEGER || a[0] == KEYBASKET_FLOAT)
+        print(a[5]);
+    if (a[0] == KEYBASKET_FLOAT) {
+        print(a[6]);
+        print(a[7]);
+    }
+    check_counts(a);
 }
 
 static void value_line(uint64_t type)
@@ -132,7 +194,7 @@ static void settle_line(void)
     size_t answer = keybasket_settle(text, text_len, out, out_len);
     if (answer < KEYBASKET_REFUSED) {
         uint64_t reading[KEYBASKET_NUMBERS];
-        keybasket_read(KEYBASKET_ANY, text, text_len, reading);
+        read_numbers(KEYBASKET_ANY, reading);
         printf("ok");
         print(reading[0]);
         print_written(answer);
@@ -154,6 +216,9 @@ static void record_line(uint8_t operation, uint64_t code)
     switch (operation) {
     case 'R':
         read_line(code);
+        break;
+    case 'K':
+        keyed_line();
         break;
     case 'V':
         value_line(code);

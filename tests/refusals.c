@@ -10,7 +10,7 @@
 
 int main(void)
 {
-    static const uint64_t none[] = {0, 49, 100, 257, (uint64_t)KEYBASKET_REFUSED + 1, (uint64_t)1 << 32 | 1, UINT64_MAX};
+    static const uint64_t none[] = {0, 49, 50, 51, 52, 54, 100, 257, (uint64_t)KEYBASKET_REFUSED + 1, (uint64_t)1 << 32 | 1, UINT64_MAX};
     size_t i;
     KEYBASKET_REFUSALS(PRINT)
     for (i = 0; i < sizeof none / sizeof none[0]; i++)

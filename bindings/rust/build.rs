@@ -23,7 +23,8 @@ fn main() {
     write_names(&folder);
 }
 
-/// Writes the header's names of refusals, by number from 1 on, as a Rust array.
+/// Writes the header's refusals, each as number and name, as a Rust array. The header must be one of eight numbers, as this crate is: a call of
+/// another library would write more of them than there is room for, or fewer than are read.
 fn write_names(folder: &Path) {
     let places = [
         folder.join("keybasket.h"),
@@ -35,19 +36,23 @@ fn write_names(folder: &Path) {
         .expect("keybasket.h stands by the archive");
     println!("cargo:rerun-if-changed={}", header.display());
     let text = fs::read_to_string(header).expect("keybasket.h is readable");
+    assert!(
+        text.contains("KEYBASKET_NUMBERS = 8\n"),
+        "{} is of another version than this crate: its readings are not of eight numbers",
+        header.display()
+    );
     let mut names = Vec::new();
+    let mut last = 0;
     // A line of the list is `X(1, KEYBASKET_EMPTY, "Empty")`.
     for row in text
         .lines()
         .filter_map(|line| line.trim().strip_prefix("X("))
     {
         let fields: Vec<&str> = row.split([',', ')']).map(str::trim).collect();
-        assert_eq!(
-            fields[0].parse(),
-            Ok(names.len() + 1),
-            "the list is in order"
-        );
-        names.push(fields[2]);
+        let number: u64 = fields[0].parse().expect("a refusal has a number");
+        assert!(number > last, "the list is in order");
+        last = number;
+        names.push(format!("({number}, {})", fields[2]));
     }
     assert!(!names.is_empty(), "keybasket.h has a list of refusals");
     let made = PathBuf::from(env::var_os("OUT_DIR").expect("cargo sets it")).join("names.rs");

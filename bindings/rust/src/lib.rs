@@ -2,15 +2,16 @@
 //! a suffix names.
 //!
 //! Every text is taken, of any bytes and any length: no call panics, allocates, or keeps anything for the next one. What a call
-//! returns is what docs/01-scope.md says. That is proved of the C calls that this crate makes; the crate itself only puts their numbers
-//! into types. It links libkeybasket.a, for x86-64 Linux; build.rs says how the archive is found.
+//! returns is what docs/01-scope.md says, and docs/02-change-requests.md of counts of digits and of [`read_keyed`]. That is proved of the C
+//! calls that this crate makes; the crate itself only puts their numbers into types. It links libkeybasket.a, for x86-64 Linux; build.rs says
+//! how the archive is found.
 //!
 //! ```
 //! use keybasket::{decode, read, settle, value, Entry, IntegerType, Literal, Quoted};
 //!
 //! let text = b"0x_1Fu8";
 //! let found = read(Entry::Any, text)?;
-//! assert_eq!(found.literal, Literal::Integer { base: 16, digits: 2..5 });
+//! assert_eq!(found.literal, Literal::Integer { base: 16, digits: 2..5, digit_count: 2 });
 //! assert_eq!(found.start_suffix, 5);
 //! assert_eq!(IntegerType::from_suffix(&text[found.start_suffix..]), Some(IntegerType::U8));
 //! assert_eq!(value(IntegerType::U8, text)?, 31);
@@ -43,12 +44,16 @@ pub const LONGEST: usize = 65536;
 /// What a call returns from here on is this plus a refusal number.
 const REFUSED: usize = 100000;
 
-/// The names of refusals 1, 2 and so on, as build.rs takes them from keybasket.h.
-const NAMES: &[&str] = include!(concat!(env!("OUT_DIR"), "/names.rs"));
+/// How many numbers a reading has; build.rs checks that the library's readings have as many.
+const NUMBERS: usize = 8;
+
+/// The numbers of refusals, in order, and their names, as build.rs takes them from keybasket.h.
+const NAMES: &[(u64, &str)] = include!(concat!(env!("OUT_DIR"), "/names.rs"));
 
 // The same as in include/keybasket.h.
 extern "C" {
     fn keybasket_read(entry: u64, text: *const u8, text_len: usize, numbers: *mut u64);
+    fn keybasket_read_keyed(text: *const u8, text_len: usize, numbers: *mut u64);
     fn keybasket_value(ty: u64, text: *const u8, text_len: usize, value: *mut u64) -> usize;
     fn keybasket_decode(
         entry: u64,
@@ -161,17 +166,18 @@ impl Quoted {
 /// Why and where a text is refused.
 #[derive(Clone, Debug, PartialEq, Eq, Hash)]
 pub struct Refusal {
-    /// The number of docs/01-scope.md's table, 1 to 48.
+    /// The number of docs/01-scope.md's table, 1 to 48; or 53, which only [`read_keyed`] returns.
     pub number: u64,
-    /// The bytes of the text that are at fault, where the table has a span.
+    /// The bytes of the text that are at fault, where the table has a span. 53 has none.
     pub span: Option<Range<usize>>,
 }
 
 impl Refusal {
-    /// The number's name in docs/01-scope.md's table, `Empty` for 1 to `OutTooSmall` for 48; `?` for a number that has none.
+    /// The number's name, `Empty` for 1 to `OutTooSmall` for 48 as in docs/01-scope.md's table, `TooManyDigits` for 53; `?` for a number that
+    /// has none.
     pub fn name(&self) -> &'static str {
-        let at = self.number.wrapping_sub(1) as usize;
-        NAMES.get(at).copied().unwrap_or("?")
+        let at = NAMES.binary_search_by_key(&self.number, |&(number, _)| number);
+        at.map_or("?", |at| NAMES[at].1)
     }
 }
 
@@ -197,6 +203,9 @@ pub struct Reading {
 }
 
 /// A literal's kind and values.
+///
+/// The digits that count are the bytes that are digits of the base. Leading zeros count. `_` does not, nor does the base's prefix, the period, or
+/// the `e` and the sign of an exponent.
 #[derive(Clone, Debug, PartialEq, Eq, Hash)]
 pub enum Literal {
     /// `true` or `false`.
@@ -207,8 +216,10 @@ pub enum Literal {
         base: u64,
         /// Where its digits stand, without the base's prefix; there may be `_` among them.
         digits: Range<usize>,
+        /// How many digits there are among these bytes.
+        digit_count: usize,
     },
-    /// A float. A part that is missing ends where the part before it ends.
+    /// A float. A part that is missing ends where the part before it ends, and has no digits.
     Float {
         /// Where the integer part ends.
         end_integer_part: usize,
@@ -216,6 +227,12 @@ pub enum Literal {
         end_fractional_part: usize,
         /// Where the exponent ends.
         end_number_part: usize,
+        /// How many digits the integer part has.
+        integer_digits: usize,
+        /// How many digits the fractional part has.
+        fractional_digits: usize,
+        /// How many digits the exponent has.
+        exponent_digits: usize,
     },
     /// A char.
     Char(char),
@@ -240,9 +257,9 @@ pub struct Body {
 
 /// Reads a text as any literal or as one of a kind.
 pub fn read(entry: Entry, text: &[u8]) -> Result<Reading, Refusal> {
-    let mut numbers = [0; 5];
+    let mut numbers = [0; NUMBERS];
     // SAFETY: the text's pointer and length are those of a slice, which is readable, and not null even where it is empty; numbers is a
-    // local of five, which nothing else refers to.
+    // local with room for all that the call writes, which nothing else refers to.
     unsafe {
         keybasket_read(
             entry as u64,
@@ -251,9 +268,36 @@ pub fn read(entry: Entry, text: &[u8]) -> Result<Reading, Refusal> {
             numbers.as_mut_ptr(),
         )
     };
-    let [kind, second, values @ ..] = numbers;
+    reading(numbers)
+}
+
+/// Reads a text that was typed in: as [`read`] does by [`Entry::Any`], but an integer with over 40 digits, or a float with over 40 in its
+/// integer part and fractional part together, is refused with 53.
+///
+/// The digits are those that a [`Literal`] counts, so `_` never makes a number too long, and leading zeros can. A float's exponent may have any
+/// number of them. A text that [`read`] refuses is refused as there.
+///
+/// ```
+/// use keybasket::{read, read_keyed, Entry};
+///
+/// assert_eq!(read_keyed(b"2143.5"), read(Entry::Any, b"2143.5"));
+///
+/// let held_down = [b'5'; 41];
+/// assert!(read(Entry::Any, &held_down).is_ok());
+/// let refusal = read_keyed(&held_down).unwrap_err();
+/// assert_eq!((refusal.number, refusal.name(), refusal.span), (53, "TooManyDigits", None));
+/// ```
+pub fn read_keyed(text: &[u8]) -> Result<Reading, Refusal> {
+    let mut numbers = [0; NUMBERS];
+    // SAFETY: the text's pointer and length are those of a slice, and numbers is a local with room for all that is written, as in `read`.
+    unsafe { keybasket_read_keyed(text.as_ptr(), text.len(), numbers.as_mut_ptr()) };
+    reading(numbers)
+}
+
+/// What the numbers of a reading say.
+fn reading([kind, second, values @ ..]: [u64; NUMBERS]) -> Result<Reading, Refusal> {
     if kind == 0 {
-        let [spanned, start, end] = values;
+        let [spanned, start, end, ..] = values;
         return Err(Refusal {
             number: second,
             span: (spanned == 1).then_some(start as usize..end as usize),
@@ -265,8 +309,8 @@ pub fn read(entry: Entry, text: &[u8]) -> Result<Reading, Refusal> {
     })
 }
 
-/// The literal of a kind, by the three numbers of its values.
-fn literal(kind: u64, [a, b, c]: [u64; 3]) -> Literal {
+/// The literal of a kind, by the six numbers of its values. The last three count digits.
+fn literal(kind: u64, [a, b, c, d, e, f]: [u64; NUMBERS - 2]) -> Literal {
     let body = Body {
         hashes: (a == 1).then_some(b as u8),
         value_len: c as usize,
@@ -276,11 +320,15 @@ fn literal(kind: u64, [a, b, c]: [u64; 3]) -> Literal {
         2 => Literal::Integer {
             base: a,
             digits: b as usize..c as usize,
+            digit_count: d as usize,
         },
         3 => Literal::Float {
             end_integer_part: a as usize,
             end_fractional_part: b as usize,
             end_number_part: c as usize,
+            integer_digits: d as usize,
+            fractional_digits: e as usize,
+            exponent_digits: f as usize,
         },
         4 => Literal::Char(char::from_u32(a as u32).expect("a char's value is a scalar value")),
         5 => Literal::String(body),

@@ -79,7 +79,8 @@ fn readings() {
         (
             Literal::Integer {
                 base: 16,
-                digits: 2..5
+                digits: 2..5,
+                digit_count: 2
             },
             5
         )
@@ -89,7 +90,8 @@ fn readings() {
         (
             Literal::Integer {
                 base: 2,
-                digits: 2..3
+                digits: 2..3,
+                digit_count: 1
             },
             3
         )
@@ -98,6 +100,9 @@ fn readings() {
         end_integer_part: 1,
         end_fractional_part: 4,
         end_number_part: 6,
+        integer_digits: 1,
+        fractional_digits: 2,
+        exponent_digits: 1,
     };
     assert_eq!(literal(Entry::Any, "1.50e1f32"), (float, 6));
     assert_eq!(literal(Entry::Char, "'é'x"), (Literal::Char('é'), 4));

@@ -1,4 +1,4 @@
-//! The names of refusals are those of the definition in crates/err.
+//! The names of refusals are those of the definition in crates/err, and 02's name for 53.
 use keybasket::Refusal;
 
 fn name(number: u64) -> &'static str {
@@ -24,7 +24,8 @@ fn names_of_refusals() {
         assert_eq!(name(number), kind);
     }
     assert_eq!(number, 48);
-    for none in [0, 49, u64::MAX] {
+    assert_eq!(name(53), "TooManyDigits");
+    for none in [0, 49, 50, 51, 52, 54, u64::MAX] {
         assert_eq!(name(none), "?");
     }
 }

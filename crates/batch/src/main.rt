@@ -36,7 +36,7 @@ fn bad_record() -> bool
 
 // The line of a record with this head and text is made and printed.
 fn print_record(line: &mut [u8], head: &[u8; 10], text: &[u8], out: &mut [u8])
-    requires { ⌜ (numberAt (now head) 2 ≤ length (now out)) × (128 + 2 * length (now out) ≤ length (now line)) ⌝ }
+    requires { ⌜ (numberAt (now head) 2 ≤ length (now out)) × (192 + 2 * length (now out) ≤ length (now line)) ⌝ }
     ensures { λ r. ⌜ now (line .exit) ≡ over (headLine (now (head .entry)) (now (text .entry))) (now (line .entry)) ⌝ }
     ensures { λ r. ⌜ now (out .exit) ≡ headBuffer (now (head .entry)) (now (text .entry)) (now (out .entry)) ⌝ }
 {
@@ -47,7 +47,7 @@ fn print_record(line: &mut [u8], head: &[u8; 10], text: &[u8], out: &mut [u8])
 
 // One record: its head is read, then its text, and its line is printed. Whether there may be another.
 fn record(line: &mut [u8], head: &mut [u8; 10], text: &mut [u8], out: &mut [u8]) -> bool
-    requires { ⌜ 128 + 2 * length (now out) ≤ length (now line) ⌝ }
+    requires { ⌜ 192 + 2 * length (now out) ≤ length (now line) ⌝ }
     ensures { λ r. ⌜ Recorded r (now (head .exit)) (now (text .exit)) (now (line .entry)) (now (line .exit)) ⌝ }
     ensures { λ r. ⌜ Lent r (now (head .exit)) (now (text .exit)) (now (out .entry)) (now (out .exit)) ⌝ }
 {

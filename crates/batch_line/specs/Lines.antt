@@ -7,6 +7,7 @@ use mathlib.Core.List.{List, [], _∷_, _++_}
 use lib.Dec.{eqb}
 use lib.ListN.{length, take, drop}
 use Rattle.err.specs.Outcome.{Place, none, between, Rawness, notRaw, raw, Values, truth, digits, ends, value, decoded, Outcome, refused, accepted}
+use Rattle.err.specs.Counts.{Counts, noCounts, integerCount, floatCounts}
 use Rattle.buffer.specs.Buffer.{over}
 use Rattle.buffer.specs.Digits.{decimal, hexDigits}
 
@@ -42,6 +43,12 @@ valuesPiece (digits d) = numberPiece (d .base) ++ (numberPiece (d .start) ++ num
 valuesPiece (ends z) = numberPiece (z .whole) ++ (numberPiece (z .fraction) ++ numberPiece (z .end))
 valuesPiece (value v) = numberPiece v
 valuesPiece (decoded v) = hashesPiece (v .hashes) ++ numberPiece (v .len)
+
+-- at the end of the line of `K`: ` DIGITS` of an integer; ` WHOLE FRACTION EXPONENT` of a float
+abbrev pub countsPiece : Counts → List ℕ
+countsPiece noCounts = []
+countsPiece (integerCount n) = numberPiece n
+countsPiece (floatCounts c) = numberPiece (c .whole) ++ (numberPiece (c .fraction) ++ numberPiece (c .exponent))
 
 abbrev pub hexes : List ℕ → List ℕ
 hexes [] = []

@@ -5,6 +5,7 @@ use err::ParseErrorKind;
 use err::Reading;
 use err::Span;
 use err::StringLit;
+use err_added::AddedErrorKind;
 ghost use mathlib.Core.Path.{_≡_};
 ghost use mathlib.Core.Bool.{cond};
 ghost use mathlib.Core.List.{_++_};
@@ -12,9 +13,11 @@ ghost use Prim.Native.Nat.{_+_, _*_, _≤_};
 ghost use lib.ListN.{length, drop};
 ghost use Rattle.err.specs.Numbers.{numberOf};
 ghost use Rattle.err.specs.Reading.{placeOf, hashesOf, valuesOfString, outcomeOf};
-ghost use Rattle.err.specs.Outcome.{accepted};
+ghost use Rattle.err.specs.Outcome.{none, accepted};
+ghost use Rattle.err.specs.Counts.{countsOf};
+ghost use Rattle.err_added.specs.Numbers.{addedNumber};
 ghost use Rattle.buffer.specs.Buffer.{Wrote};
-ghost use Rattle.batch_line.specs.Lines.{Added, numberPiece, placePiece, hashesPiece, hexes, hexPiece, kept, keptPiece, refusalLine, okLine, kindLine, readingLine};
+ghost use Rattle.batch_line.specs.Lines.{Added, numberPiece, placePiece, hashesPiece, countsPiece, hexes, hexPiece, kept, keptPiece, refusalLine, okLine, kindLine, readingLine};
 
 // Some bytes.
 pub fn add(line: &mut [u8], at: usize, piece: &[u8]) -> usize
@@ -47,14 +50,30 @@ fn add_span(line: &mut [u8], at: usize, span: Span) -> usize
     }
 }
 
-// `no`, the number and the span.
+// `no`, a number and a span.
+fn put_no(line: &mut [u8], number: u64, span: Span) -> usize
+    requires { ⌜ 128 ≤ length (now line) ⌝ }
+    ensures { λ r. ⌜ Wrote (refusalLine number (placeOf span)) r (now (line .entry)) (now (line .exit)) × (r ≤ 107) ⌝ }
+{
+    let start = add(line, 0, b"no");
+    let at = add_number(line, start, number);
+    add_span(line, at, span)
+}
+
+// The line of a refusal: its number and its span.
 pub fn put_refusal(line: &mut [u8], kind: ParseErrorKind, span: Span) -> usize
     requires { ⌜ 128 ≤ length (now line) ⌝ }
     ensures { λ r. ⌜ Wrote (refusalLine (numberOf kind) (placeOf span)) r (now (line .entry)) (now (line .exit)) × (r ≤ 107) ⌝ }
 {
-    let start = add(line, 0, b"no");
-    let at = add_number(line, start, err::number(kind) as u64);
-    add_span(line, at, span)
+    put_no(line, err::number(kind) as u64, span)
+}
+
+// The line of a refusal from 50 on, which has no span.
+pub fn put_added(line: &mut [u8], kind: AddedErrorKind) -> usize
+    requires { ⌜ 128 ≤ length (now line) ⌝ }
+    ensures { λ r. ⌜ Wrote (refusalLine (addedNumber kind) none) r (now (line .entry)) (now (line .exit)) × (r ≤ 107) ⌝ }
+{
+    put_no(line, err_added::number(kind) as u64, Span::Nowhere)
 }
 
 // `ok` and a number.
@@ -75,7 +94,7 @@ pub fn put_kind(line: &mut [u8], kind: u64, n: usize) -> usize
     add_number(line, at, n as u64)
 }
 
-// Three numbers: an integer's base and the ends of its digits, or a float's ends.
+// Three numbers: an integer's base and the ends of its digits, a float's ends, or its counts of digits.
 fn add_three(line: &mut [u8], at: usize, a: u64, b: u64, d: u64) -> usize
     requires { ⌜ at + 63 ≤ length (now line) ⌝ }
     ensures { λ r. ⌜ Added (numberPiece a ++ (numberPiece b ++ numberPiece d)) at r (now (line .entry)) (now (line .exit)) × (r ≤ at + 63) ⌝ }
@@ -157,6 +176,24 @@ pub fn put_reading(line: &mut [u8], r: Reading) -> usize
         }
         Reading::ByteString(l) => put_string(line, 7, l),
         Reading::CString(l) => put_string(line, 8, l),
+    }
+}
+
+// The counts of digits, if it is a number.
+pub fn add_counts(line: &mut [u8], at: usize, r: Reading) -> usize
+    requires { ⌜ at + 63 ≤ length (now line) ⌝ }
+    ensures { λ n. ⌜ Added (countsPiece (countsOf r)) at n (now (line .entry)) (now (line .exit)) × (n ≤ at + 63) ⌝ }
+{
+    match r {
+        Reading::Integer(l) => add_number(line, at, l.digits as u64),
+        Reading::Float(l) => add_three(
+            line,
+            at,
+            l.integer_digits as u64,
+            l.fractional_digits as u64,
+            l.exponent_digits as u64,
+        ),
+        _ => at,
     }
 }
 

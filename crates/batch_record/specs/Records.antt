@@ -5,17 +5,24 @@ use mathlib.Core.Bool.{cond}
 use mathlib.Core.List.{List, [], _∷_, _++_}
 use lib.Dec.{eqb}
 use lib.ListN.{length, take, drop, replicate}
-use Rattle.err.specs.Outcome.{Place}
-use Rattle.batch_line.specs.Lines.{hexPiece, keptPiece, refusalLine, okLine, kindLine, readingLine}
+use Rattle.err.specs.Outcome.{Place, Outcome}
+use Rattle.err.specs.Counts.{Counts}
+use Rattle.digits.specs.Counts.{digitCounts}
+use Rattle.batch_line.specs.Lines.{countsPiece, hexPiece, keptPiece, refusalLine, okLine, kindLine, readingLine}
 use Rattle.integer_value.specs.Value as value
 use Rattle.string.specs.Decode as decode
 use Rattle.literal.specs.Readings.{readAt}
+use Rattle.keyed.specs.Keyed.{keyedAt}
 use Rattle.literal.specs.Values.{valueAt}
 use Rattle.literal.specs.Suffixes.{integerFromSuffix, floatFromSuffix}
 use Rattle.literal.specs.Decodes as decodes
 use Rattle.settle.specs.Settled as settled
 
 -- ---- the line of what a call came to
+
+-- `K`: as `R`, and the counts of digits
+abbrev pub keyedLine : Outcome → Counts → List ℕ
+keyedLine o c = readingLine o ++ countsPiece c
 
 -- `ok VALUE`
 abbrev pub valuedLine : value.Valued → List ℕ
@@ -54,8 +61,8 @@ settlingLine text buf = settledLine (settled.settleAt text (length buf)) (settle
 abbrev pub badOperation : List ℕ
 badOperation = 98 ∷ 97 ∷ 100 ∷ 32 ∷ 111 ∷ 112 ∷ 101 ∷ 114 ∷ 97 ∷ 116 ∷ 105 ∷ 111 ∷ 110 ∷ []
 
--- by the letter: `R`, `V`, `D`, `S`, `I`, `F`
--- 82 is `R`, 86 is `V`, 68 is `D`, 83 is `S`, 73 is `I`, 70 is `F`
+-- by the letter: `R`, `V`, `D`, `S`, `I`, `F`, `K`
+-- 82 is `R`, 86 is `V`, 68 is `D`, 83 is `S`, 73 is `I`, 70 is `F`, 75 is `K`
 unfoldable pub operationLine : ℕ → ℕ → List ℕ → List ℕ → List ℕ
 operationLine letter code text buf =
     cond (eqb letter 82) (readingLine (readAt code text))
@@ -64,7 +71,8 @@ operationLine letter code text buf =
     (cond (eqb letter 83) (settlingLine text buf)
     (cond (eqb letter 73) (okLine (integerFromSuffix text))
     (cond (eqb letter 70) (okLine (floatFromSuffix text))
-    badOperation)))))
+    (cond (eqb letter 75) (keyedLine (keyedAt text) (digitCounts text (keyedAt text)))
+    badOperation))))))
 
 -- what the buffer holds then: only `D` and `S` write
 -- 68 is `D`, 83 is `S`

@@ -3,6 +3,7 @@
 use err::ParseErrorKind;
 use err::Span;
 use integer_value::IntegerValue;
+use keyed::Keyed;
 use settle::Settled;
 use string::Decoded;
 ghost use mathlib.Core.Path.{_≡_};
@@ -13,9 +14,10 @@ ghost use Rattle.err.specs.Reading.{placeOf};
 ghost use Rattle.buffer.specs.Buffer.{Wrote};
 ghost use Rattle.batch_line.specs.Lines.{Added};
 ghost use Rattle.integer_value.specs.Value.{valuedOf};
+ghost use Rattle.keyed.specs.Keyed.{keyedOf, keyedCounts};
 ghost use Rattle.literal.specs.Decodes as decodes;
 ghost use Rattle.settle.specs.Settled.{formed, settleAt, settleBuffer, formAt};
-ghost use Rattle.batch_record.specs.Records.{valuedLine, writtenPiece, refusedLine, decodingLine, settlingLine, operationLine, operationBuffer, recordLine, recordBuffer};
+ghost use Rattle.batch_record.specs.Records.{keyedLine, valuedLine, writtenPiece, refusedLine, decodingLine, settlingLine, operationLine, operationBuffer, recordLine, recordBuffer};
 ghost use Rattle.batch_record.specs.Program.{formLine, programLine};
 
 // Every byte becomes 165.
@@ -90,10 +92,24 @@ fn put_settling(line: &mut [u8], text: &[u8], out: &mut [u8]) -> usize
     }
 }
 
+// The line of a reading by the keyed entry.
+fn put_keyed(line: &mut [u8], found: Keyed) -> usize
+    requires { ⌜ 192 ≤ length (now line) ⌝ }
+    ensures { λ r. ⌜ Wrote (keyedLine (keyedOf found) (keyedCounts found)) r (now (line .entry)) (now (line .exit)) × (r ≤ 170) ⌝ }
+{
+    match found {
+        Keyed::Refused(kind) => batch_line::put_added(line, kind),
+        Keyed::Read(reading) => {
+            let at = batch_line::put_reading(line, reading);
+            batch_line::add_counts(line, at, reading)
+        }
+    }
+}
+
 // The line of an operation, by its letter.
 fn put_operation(line: &mut [u8], letter: u8, code: u8, text: &[u8], out: &mut [u8]) -> usize
-    requires { ⌜ 128 + 2 * length (now out) ≤ length (now line) ⌝ }
-    ensures { λ r. ⌜ Wrote (operationLine letter code (now (text .entry)) (now (out .entry))) r (now (line .entry)) (now (line .exit)) × (r ≤ 115 + 2 * length (now (out .entry))) ⌝ }
+    requires { ⌜ 192 + 2 * length (now out) ≤ length (now line) ⌝ }
+    ensures { λ r. ⌜ Wrote (operationLine letter code (now (text .entry)) (now (out .entry))) r (now (line .entry)) (now (line .exit)) × (r ≤ 170 + 2 * length (now (out .entry))) ⌝ }
     ensures { λ r. ⌜ now (out .exit) ≡ operationBuffer letter code (now (text .entry)) (now (out .entry)) ⌝ }
 {
     match letter {
@@ -103,13 +119,14 @@ fn put_operation(line: &mut [u8], letter: u8, code: u8, text: &[u8], out: &mut [
         b'S' => put_settling(line, text, out),
         b'I' => batch_line::put_ok(line, literal::integer_from_suffix(text) as u64),
         b'F' => batch_line::put_ok(line, literal::float_from_suffix(text) as u64),
+        b'K' => put_keyed(line, keyed::read_keyed(text)),
         _ => batch_line::add(line, 0, b"bad operation"),
     }
 }
 
 // The line of a record, with its line feed. The buffer is as long as the record lends it.
 pub fn record_line(line: &mut [u8], letter: u8, code: u8, text: &[u8], out: &mut [u8]) -> usize
-    requires { ⌜ 128 + 2 * length (now out) ≤ length (now line) ⌝ }
+    requires { ⌜ 192 + 2 * length (now out) ≤ length (now line) ⌝ }
     ensures { λ r. ⌜ Wrote (recordLine letter code (now (text .entry)) (length (now (out .entry)))) r (now (line .entry)) (now (line .exit)) ⌝ }
     ensures { λ r. ⌜ now (out .exit) ≡ recordBuffer letter code (now (text .entry)) (length (now (out .entry))) ⌝ }
 {

@@ -1,5 +1,6 @@
 // The entries for C (include/keybasket.h): numbers and byte slices only. None has a `requires`: any code and any bytes may be handed in.
 use integer_value::IntegerValue;
+use keyed::Keyed;
 use settle::Settled;
 use string::Decoded;
 ghost use mathlib.Core.Path.{_≡_};
@@ -11,6 +12,8 @@ ghost use Rattle.literal.specs.Decodes.{decodeAt};
 ghost use Rattle.literal.specs.Decodes as decodes;
 ghost use Rattle.literal.specs.Suffixes.{integerFromSuffix, floatFromSuffix};
 ghost use Rattle.settle.specs.Settled.{settledOf, settleAt, settleBuffer};
+ghost use Rattle.digits.specs.Counts.{digitCounts};
+ghost use Rattle.keyed.specs.Keyed.{keyedOf, keyedCounts, keyedAt};
 ghost use Rattle.numbers.specs.Numbers.{readingNumbers};
 ghost use Rattle.c_api.specs.ReturnValue.{returnValue, valueAfter};
 
@@ -71,13 +74,32 @@ pub extern "C" fn keybasket_value(ty: u64, text: &[u8], value: &mut u64) -> usiz
     }
 }
 
-// The reading of a text by entry code, as five numbers: kind, start of suffix and values; or 0, the refusal number and the span.
+// The reading of a text by entry code, as eight numbers: kind, start of suffix, values and counts of digits; or 0, the refusal number and the span.
 #[no_mangle]
-pub extern "C" fn keybasket_read(entry: u64, text: &[u8], answer: &mut [u64; 5])
-    ensures { λ r. ⌜ now (answer .exit) ≡ readingNumbers (readAt entry (now (text .entry))) ⌝ }
+pub extern "C" fn keybasket_read(entry: u64, text: &[u8], answer: &mut [u64; 8])
+    ensures { λ r. ⌜ now (answer .exit) ≡ readingNumbers (readAt entry (now (text .entry))) (digitCounts (now (text .entry)) (readAt entry (now (text .entry)))) ⌝ }
     ensures { λ r. ⌜ now (text .exit) ≡ now (text .entry) ⌝ }
 {
     *answer = numbers::reading_numbers(literal::read(entry, text));
+}
+
+// What `keybasket_read_keyed` writes.
+fn keyed_numbers(found: Keyed) -> [u64; 8]
+    ensures { λ r. ⌜ r ≡ readingNumbers (keyedOf found) (keyedCounts found) ⌝ }
+{
+    match found {
+        Keyed::Read(reading) => numbers::reading_numbers(reading),
+        Keyed::Refused(kind) => numbers::added_numbers(kind),
+    }
+}
+
+// The reading of a text by the keyed entry, as eight numbers.
+#[no_mangle]
+pub extern "C" fn keybasket_read_keyed(text: &[u8], answer: &mut [u64; 8])
+    ensures { λ r. ⌜ now (answer .exit) ≡ readingNumbers (keyedAt (now (text .entry))) (digitCounts (now (text .entry)) (keyedAt (now (text .entry)))) ⌝ }
+    ensures { λ r. ⌜ now (text .exit) ≡ now (text .entry) ⌝ }
+{
+    *answer = keyed_numbers(keyed::read_keyed(text));
 }
 
 // The type code of the integer type that a name stands for, 1 to 12, or 0.

@@ -18,6 +18,7 @@ use Rattle.types.specs.declared.FloatFound.{FloatFound}
 use Rattle.literal.specs.Suffixes.{codeOfInteger, integerFromSuffix, codeOfFloat, floatFromSuffix}
 use Rattle.demands.specs.Demand1.{integerName, floatName, SuffixAnswers, Demand1}
 use Rattle.demands.proofs.ReadCall.{read-answers}
+use Rattle.demands.proofs.KeyedCall.{keyed-answers}
 use Rattle.demands.proofs.ValueCall.{value-answers}
 use Rattle.demands.proofs.DecodeCall.{decode-answers}
 use Rattle.demands.proofs.SettleCall.{settle-answers, number-answers}
@@ -71,4 +72,4 @@ suffix-answers : SuffixAnswers
 suffix-answers = record { integer = integer-named; no-integer = unnamed; float = float-named; no-float = no-float-named }
 
 pub demand-1 : Demand1
-demand-1 = record { read = read-answers; value = value-answers; decode = decode-answers; suffixes = suffix-answers; settle = settle-answers; spans = span-answers; numbers = number-answers }
+demand-1 = record { read = read-answers; keyed = keyed-answers; value = value-answers; decode = decode-answers; suffixes = suffix-answers; settle = settle-answers; spans = span-answers; numbers = number-answers }

@@ -34,7 +34,7 @@ use Rattle.grammar.proofs.Runs.{T-true, true-T, T-not, and-i, or-l, or-r, or-e,
 use Rattle.grammar.proofs.Integers.{Dec, dec-open, dec-all, dec-apart}
 use Rattle.grammar.proofs.Floats.{float-iff}
 use Rattle.demands.specs.Demand1.{Readable}
-use Rattle.form_decimal.specs.Scaled.{part}
+use Rattle.scan.specs.Part.{part}
 use Rattle.demands.proofs.Found.{Found}
 use Rattle.demands.proofs.Classes.{dec-is, decimal-is, digit-is, all-to, all-from, stops-to, stops-from, some-to, some-from}
 use Rattle.demands.proofs.Suffixes.{fault-scan, suffix-is, e-is, ending-is}

@@ -37,7 +37,7 @@ use Rattle.grammar.proofs.Runs.{T-true, true-T, and-l, and-r, and-i, or-l, span
 use Rattle.grammar.proofs.Integers.{dec-open, dec-make, dec-all, digits-ok, prefix-is, integer-iff}
 use Rattle.demands.specs.Demand1.{Readable}
 use Rattle.demands.specs.Demand2.{GivesInteger}
-use Rattle.form_decimal.specs.Scaled.{part}
+use Rattle.scan.specs.Part.{part}
 use Rattle.demands.proofs.ValueCall.{fine-value}
 use Rattle.demands.proofs.Found.{Found}
 use Rattle.demands.proofs.Classes.{T-false, DigitsOf, bin-is, oct-is, dec-is, hex-digit-is, decimal-is, digit-is, value-is, all-to, all-from, stops-to, stops-from, some-to, some-from}

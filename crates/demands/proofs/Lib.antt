@@ -1,6 +1,7 @@
 pub mod Marked
 pub mod Numbered
 pub mod ReadCall
+pub mod KeyedCall
 pub mod ValueCall
 pub mod DecodeCall
 pub mod SettleCall
@@ -23,3 +24,5 @@ pub mod Settling
 pub mod FormText
 pub mod Demand3
 pub mod ByteClasses
+pub mod Underscores
+pub mod Keyed

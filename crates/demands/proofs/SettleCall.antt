@@ -16,6 +16,7 @@ use Rattle.grammar.specs.Meaning as worth
 use Rattle.form.specs.Form.{formOf, faultOf}
 use Rattle.form.specs.Reduced.{reduce}
 use Rattle.literal.specs.Readings.{readAt}
+use Rattle.digits.specs.Counts.{digitCounts}
 use Rattle.form_reading.specs.Worths.{worthOf}
 use Rattle.settle.proofs.Forms.{same-form}
 use Rattle.settle.specs.Settled.{FormAnswer, returned, formed, refusal, measured, measureOf, measureAt, fitted, settleAt, formBy, formAt, settleBuffer}
@@ -121,11 +122,17 @@ settle-answers =
 
 -- ---- the entries for C
 
+-- a reading's eight numbers
+abbrev pub numbers : List ℕ → Outcome → List ℕ
+numbers s o = readingNumbers o (digitCounts s o)
+
 pub number-answers : NumberAnswers
 number-answers =
     record {
-      reading = λ code s h. ap readingNumbers h;
-      no-reading = λ code s h. ap readingNumbers h;
+      reading = λ code s h. ap (numbers s) h;
+      no-reading = λ code s h. ap (numbers s) h;
+      keyed = λ s h. ap (numbers s) h;
+      no-keyed = λ s h. ap (numbers s) h;
       value = λ code s h. (ap (returnValue (λ v. 0)) h, λ before. ap (λ (v : Valued). valueAfter v before) h);
       no-value = λ code s h. (ap (returnValue (λ v. 0)) h, λ before. ap (λ (v : Valued). valueAfter v before) h);
       bytes = λ code room s h. ap (returnValue (λ n. n)) h;

@@ -27,6 +27,8 @@ use Rattle.form.specs.Reduced.{reduce}
 use Rattle.text_check.specs.Checks.{textFault}
 use Rattle.text_check.proofs.Checks.{fault-passed, fault-is}
 use Rattle.literal.specs.Readings.{entryRead, readAt}
+use Rattle.digits.specs.Counts.{digitCounts}
+use Rattle.keyed.specs.Keyed.{overlong, keyedAt}
 use Rattle.literal.specs.Values.{checkedValue, largestIn, valueWithin, valueAt}
 use Rattle.literal.specs.Decodes.{checkedDecode, kindCoded, decodeBy, decodeAt}
 use Rattle.literal.specs.declared.KindFound.{KindFound}
@@ -172,6 +174,14 @@ settle-at s room = go (measureAt s) (measure-at s)
 
 -- ---- all calls
 
+-- the keyed entry: entry 0's refusal, with its span, or 53 without one
+keyed-at : (s : List ℕ) {n : ℕ} {p : Place} → keyedAt s ≡ refused n p → SpanBy 0 s n p
+unfolding keyedAt
+keyed-at s {n} {p} =
+    cond-in (λ (o : Outcome). o ≡ refused n p → SpanBy 0 s n p) (overlong (digitCounts s (readAt 0 s)))
+    (λ t h. let q : n ≡ 53 = cc in let r : p ≡ none = cc in (λ l. absurd (omega arith), λ l. r))
+    (λ t h. (λ l. h, read-none 0 s h))
+
 pub span-answers : SpanAnswers
 span-answers =
     record {
@@ -179,4 +189,5 @@ span-answers =
       decode = λ code room s h. subst (Spanned {A = ℕ} code s) h (decode-at code s room);
       settle = λ room s h. subst (Spanned {A = ℕ × ℕ} 0 s) h (settle-at s room);
       read = read-none;
+      keyed = λ s. keyed-at s;
     }

@@ -30,7 +30,8 @@ use Rattle.form.proofs.Fits.{fit-bytes}
 use Rattle.grammar.specs.Values.{numberIn}
 use Rattle.grammar.specs.Meaning.{Worth, kindOf, Means}
 use Rattle.grammar.specs.Meaning as worth
-use Rattle.form_decimal.specs.Scaled.{part, floatAt}
+use Rattle.scan.specs.Part.{part}
+use Rattle.form_decimal.specs.Scaled.{floatAt}
 use Rattle.form_reading.specs.Worths.{worthOf}
 use Rattle.demands.specs.Demand1.{Readable}
 use Rattle.demands.specs.Demand2.{Gives, GivesInteger, GivesBytes}

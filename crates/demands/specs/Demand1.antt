@@ -6,7 +6,8 @@
 --   P ↔ Q, P → ⊥, a ≡ b      P exactly when Q; not P; a and b are equal
 --   a ∷ s, []         the list s with a in front; the empty list. (a, b) is a pair, p .0 and p .1 are its parts, d .base is a record's field `base`
 --   T b, cond b x y   the test b is true; x where the test b is true, else y. λ v. e is the function that takes v to e
---   length s, drop n s, part a z s, over v buf   how many bytes; all but the first n; the bytes from a to z; v, and after it what buf held there
+--   length s, take n s, drop n s   how many bytes; the first n; all but the first n. let x = e in ..   x stands for e in what follows
+--   part a z s, over v buf   the bytes from a to z; v, and after it what buf held there
 --   A record holds when all its fields hold. `use` says in which crate and file the other names are defined; with `as`, under which name before a dot.
 --   "Assumes nothing" means: uses no unproved axiom. `pub`, `abbrev`, `unfoldable` and `Type 0` may be skipped.
 --
@@ -14,16 +15,19 @@
 -- document 01 gives them; with the text it was handed untouched; and, if refused, with the output buffer exactly as it came."
 --
 -- The calls, with the contracts that are proved of their code. None has a `requires`: any code and any bytes may be handed in. r is what the function
--- returns; `outcomeOf r`, `valuedOf r`, `decodedOf r` and `settledOf r` are the same in 01's numbers.
---   literal::read                 outcomeOf r ≡ readAt code text
+-- returns; `outcomeOf r`, `valuedOf r`, `decodedOf r`, `settledOf r` and `keyedOf r` are the same in the documents' numbers, `countsOf r` and `keyedCounts r` the
+-- counts of digits in it.
+--   literal::read                 outcomeOf r ≡ readAt code text, and countsOf r ≡ digitCounts text (readAt code text)
 --   literal::value                valuedOf r ≡ valueAt code text
 --   literal::decode               decodedOf r ≡ decodeAt code text (length of out at entry), and out at exit ≡ decodeBuffer code text (out at entry)
 --   literal::integer_from_suffix  r ≡ integerFromSuffix name
 --   literal::float_from_suffix    r ≡ floatFromSuffix name
 --   settle::measure               settledOf r ≡ measureAt text
 --   settle::settle                settledOf r ≡ settleAt text (length of out at entry), and out at exit ≡ settleBuffer text (out at entry)
+--   keyed::read_keyed             keyedOf r ≡ keyedAt text, and keyedCounts r ≡ digitCounts text (keyedAt text)
 -- and the entries for C, with out at exit as above:
---   c_api::keybasket_read          the five numbers at exit ≡ readingNumbers (readAt entry text)
+--   c_api::keybasket_read          the eight numbers at exit ≡ readingNumbers (readAt entry text) (digitCounts text (readAt entry text))
+--   c_api::keybasket_read_keyed    the eight numbers at exit ≡ readingNumbers (keyedAt text) (digitCounts text (keyedAt text))
 --   c_api::keybasket_value         r ≡ returnValue (λ v. 0) (valueAt ty text), and value at exit ≡ valueAfter (valueAt ty text) (value at entry)
 --   c_api::keybasket_decode        r ≡ returnValue (λ n. n) (decodeAt entry text (length of out at entry))
 --   c_api::keybasket_settle        r ≡ returnValue (λ form. form .1) (settleAt text (length of out at entry))
@@ -35,7 +39,7 @@
 use Prim.Native.Nat.{ℕ, _+_, _^_, _≤_, _<_}
 use mathlib.Core.Path.{_≡_}
 use mathlib.Core.Logic.{_⊎_}
-use mathlib.Core.List.{List, [], _∷_}
+use mathlib.Core.List.{List, [], _∷_, _++_}
 use lib.ListN.{length}
 use Rattle.err.specs.Outcome.{Place, none, RefusedIn, Values, Outcome, refused, accepted}
 use Rattle.err.specs.Answer.{Answer, returned, refusal}
@@ -58,7 +62,9 @@ use Rattle.literal.specs.Values.{valueAt}
 use Rattle.literal.specs.Decodes.{decodeAt, decodeBuffer}
 use Rattle.literal.specs.Suffixes.{integerFromSuffix, floatFromSuffix}
 use Rattle.settle.specs.Settled.{formed, measureAt, settleAt, formAt, settleBuffer}
-use Rattle.numbers.specs.Numbers.{readingNumbers, valueNumbers, placeNumbers}
+use Rattle.digits.specs.Counts.{partCounts, digitCounts}
+use Rattle.keyed.specs.Keyed.{keyedAt}
+use Rattle.numbers.specs.Numbers.{readingNumbers, valueNumbers, countNumbers, placeNumbers}
 use Rattle.c_api.specs.ReturnValue.{returnValue, valueAfter}
 
 -- a text that may be read: at most 65,536 bytes, and UTF-8
@@ -92,6 +98,16 @@ pub record ReadAnswers : Type 0 where
   -- nothing else is refused with 42, 43 or 44: an entry itself refuses with one of litrs's numbers. (The value call is refused as entry 2 is,
   -- decoding as 5, 7 and 8 are.)
   pub own-number : (code : ℕ) (s : List ℕ) {n : ℕ} {p : Place} → code ≤ 8 → entryRead code s ≡ refused n p → RefusedIn (length s) n p
+
+-- the answers of the keyed entry: as those of reading, without 42, and with 53
+abbrev pub KeyedAnswered : ℕ → Outcome → Type 0
+KeyedAnswered m (accepted k e vs) = Answered m (accepted k e vs)
+KeyedAnswered m (refused n p) = Numbered m (43 ∷ 44 ∷ 53 ∷ []) n p
+
+-- the keyed entry returns an answer for every text, and is refused as reading by entry 0 is. (When an accepted text is refused: Keyed.)
+pub record KeyedAnswers : Type 0 where
+  pub answered : (s : List ℕ) → KeyedAnswered (length s) (keyedAt s)
+  pub own : (s : List ℕ) {n : ℕ} {p : Place} → readAt 0 s ≡ refused n p → keyedAt s ≡ refused n p
 
 -- the answers of the value call: a number, or a refusal
 abbrev pub ValueAnswered : ℕ → Answer ℕ → Type 0
@@ -199,21 +215,27 @@ pub record SettleAnswers : Type 0 where
 abbrev pub SpanBy : ℕ → List ℕ → ℕ → Place → Type 0
 SpanBy code s n p = (n ≤ 41 → readAt code s ≡ refused n p) × (42 ≤ n → p ≡ none)
 
--- include/keybasket.h: "The span of 1 to 41 is what keybasket_read writes": for a value by entry 2, for decoding by the same entry, for settling by
--- entry 0. "From 42 on there is no span".
+-- include/keybasket.h: "The span of 1 to 41 is what keybasket_read writes": for a value by entry 2, for decoding by the same entry, for settling
+-- and the keyed entry by entry 0. "From 42 on there is no span".
 pub record SpanAnswers : Type 0 where
   pub value : (code : ℕ) (s : List ℕ) {n : ℕ} {p : Place} → valueAt code s ≡ refusal n p → SpanBy 2 s n p
   pub decode : (code room : ℕ) (s : List ℕ) {n : ℕ} {p : Place} → decodeAt code s room ≡ refusal n p → SpanBy code s n p
   pub settle : (room : ℕ) (s : List ℕ) {n : ℕ} {p : Place} → settleAt s room ≡ refusal n p → SpanBy 0 s n p
   pub read : (code : ℕ) (s : List ℕ) {n : ℕ} {p : Place} → readAt code s ≡ refused n p → 42 ≤ n → p ≡ none
+  pub keyed : (s : List ℕ) {n : ℕ} {p : Place} → keyedAt s ≡ refused n p → SpanBy 0 s n p
 
 -- the entries for C say the same in numbers. A reading's first number is its kind, or 0 where it is refused; a length, which is at most 65,536
 -- (`DecodeAnswers`, `SettleAnswers`), stands for itself, a refusal is 100,000 plus its number; a value that is refused is left as it was. `valueNumbers` and `placeNumbers` are the
--- columns [2] to [4] of the table in include/keybasket.h
+-- columns [2] to [4] of the table in include/keybasket.h, `countNumbers` the columns [5] to [7]
 pub record NumberAnswers : Type 0 where
   pub reading : (code : ℕ) (s : List ℕ) {k e : ℕ} {vs : Values} → readAt code s ≡ accepted k e vs
-      → readingNumbers (readAt code s) ≡ k ∷ e ∷ valueNumbers vs
-  pub no-reading : (code : ℕ) (s : List ℕ) {n : ℕ} {p : Place} → readAt code s ≡ refused n p → readingNumbers (readAt code s) ≡ 0 ∷ n ∷ placeNumbers p
+      → readingNumbers (readAt code s) (digitCounts s (readAt code s)) ≡ k ∷ e ∷ (valueNumbers vs ++ countNumbers (partCounts s vs))
+  pub no-reading : (code : ℕ) (s : List ℕ) {n : ℕ} {p : Place} → readAt code s ≡ refused n p
+      → readingNumbers (readAt code s) (digitCounts s (readAt code s)) ≡ 0 ∷ n ∷ (placeNumbers p ++ (0 ∷ 0 ∷ 0 ∷ []))
+  pub keyed : (s : List ℕ) {k e : ℕ} {vs : Values} → keyedAt s ≡ accepted k e vs
+      → readingNumbers (keyedAt s) (digitCounts s (keyedAt s)) ≡ k ∷ e ∷ (valueNumbers vs ++ countNumbers (partCounts s vs))
+  pub no-keyed : (s : List ℕ) {n : ℕ} {p : Place} → keyedAt s ≡ refused n p
+      → readingNumbers (keyedAt s) (digitCounts s (keyedAt s)) ≡ 0 ∷ n ∷ (placeNumbers p ++ (0 ∷ 0 ∷ 0 ∷ []))
   pub value : (code : ℕ) (s : List ℕ) {v : ℕ} → valueAt code s ≡ returned v
       → (returnValue (λ v. 0) (valueAt code s) ≡ 0) × ((before : ℕ) → valueAfter (valueAt code s) before ≡ v)
   pub no-value : (code : ℕ) (s : List ℕ) {n : ℕ} {p : Place} → valueAt code s ≡ refusal n p
@@ -226,6 +248,7 @@ pub record NumberAnswers : Type 0 where
 
 pub record Demand1 : Type 0 where
   pub read : ReadAnswers
+  pub keyed : KeyedAnswers
   pub value : ValueAnswers
   pub decode : DecodeAnswers
   pub suffixes : SuffixAnswers

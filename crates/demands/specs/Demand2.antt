@@ -31,7 +31,7 @@ use Rattle.grammar.specs.Decimal.{Decimal}
 use Rattle.grammar.specs.Values.{radixOf, numberIn, powered}
 use Rattle.grammar.specs.Meaning.{Worth, kindOf, Means}
 use Rattle.grammar.specs.Meaning as worth
-use Rattle.form_decimal.specs.Scaled.{part}
+use Rattle.scan.specs.Part.{part}
 use Rattle.demands.specs.Demand1.{Readable, ValueType}
 
 -- of one text: what reading, value and decoding return is what the definitions transcribed from the Rust say. A reading holds kind, part positions,

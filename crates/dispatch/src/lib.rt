@@ -6,7 +6,8 @@ ghost use Rattle.dispatch.specs.Entries.{startsFloat, numberEntry, byteE
 fn starts_float(text: &[u8]) -> bool
     ensures { λ r. ⌜ r ≡ startsFloat (now (text .entry)) ⌝ }
 {
-    let end = digits::end_dec_digits(text);
+    let run = digits::end_dec_digits(text);
+    let end = run.end;
     if scan::byte_at(text, end) == b'.' {
         return true;
     }

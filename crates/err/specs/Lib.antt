@@ -3,3 +3,4 @@ pub mod Numbers
 pub mod Reading
 pub mod Checked
 pub mod Answer
+pub mod Counts

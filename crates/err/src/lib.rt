@@ -124,34 +124,40 @@ impl IntegerBase {
     }
 }
 
-// A bool: its truth, and where its text ends, which is the start of its empty suffix.
+// The literals. A field of less than eight bytes stands last: a reading is copied in words, and a first word made of bytes makes every copy wait.
+
+// A bool: where its text ends, which is the start of its empty suffix, and its truth.
 pub struct BoolLit {
-    pub value: bool,
     pub end: usize,
+    pub value: bool,
 }
 
-// An integer: its base, and both ends of its digits. The suffix starts where they end.
+// An integer: both ends of its digits, how many of these bytes are digits (02, d), and its base. The suffix starts where the digits end.
 pub struct IntegerLit {
-    pub base: IntegerBase,
     pub start_main_part: usize,
     pub end_main_part: usize,
+    pub digits: usize,
+    pub base: IntegerBase,
 }
 
-// A float: where the integer part, the fractional part and the exponent end. The suffix starts at the last.
+// A float: where the integer part, the fractional part and the exponent end, and how many digits each has (02, d). The suffix starts at the last end.
 pub struct FloatLit {
     pub end_integer_part: usize,
     pub end_fractional_part: usize,
     pub end_number_part: usize,
+    pub integer_digits: usize,
+    pub fractional_digits: usize,
+    pub exponent_digits: usize,
 }
 
 pub struct CharLit {
-    pub value: u32,
     pub start_suffix: usize,
+    pub value: u32,
 }
 
 pub struct ByteLit {
-    pub value: u8,
     pub start_suffix: usize,
+    pub value: u8,
 }
 
 // How many hashes a raw string has, or that it is not raw.
@@ -162,9 +168,9 @@ pub enum Hashes {
 
 // A string, a byte string or a C string: its value is not kept, only how many bytes it has.
 pub struct StringLit {
-    pub hashes: Hashes,
     pub value_len: usize,
     pub start_suffix: usize,
+    pub hashes: Hashes,
 }
 
 // What reading a text returns.

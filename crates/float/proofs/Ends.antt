@@ -3,7 +3,7 @@
 use mathlib.Core.Path.{_≡_}
 use mathlib.Core.Bool.{Bool, true, false, cond, _&&_, _||_}
 use mathlib.Core.List.{List}
-use Prim.Native.Nat.{ℕ, _+_, _≤_, _<_}
+use Prim.Native.Nat.{ℕ, _+_, _<_}
 use native.Mathlib.Omega.{arith}
 use lib.Dec.{eqb, ltb}
 use lib.ListN.{getD}
@@ -25,11 +25,6 @@ module _ (s : List ℕ) where
   pub sign-after : (f : ℕ) → f < signEnd s f
   unfolding signEnd
   sign-after f = cond-in (λ (n : ℕ). f < n) (eqb (getD s (f + 1) 0) 45 || eqb (getD s (f + 1) 0) 43) (λ e. omega arith) (λ e. omega arith)
-
-  -- and not after its end
-  pub sign-before : (f : ℕ) → f < exponentEnd s f → signEnd s f ≤ exponentEnd s f
-  unfolding exponentEnd
-  sign-before f = cond-in (λ (n : ℕ). f < n → signEnd s f ≤ n) (startsE s f) (λ t h. omega arith) (λ t h. absurd (omega arith))
 
   pub by-exponent : (i f : ℕ)
       → let e = exponentEnd s f in

@@ -2,6 +2,7 @@ pub mod Examples
 pub mod Inside
 pub mod Start
 pub mod Ends
+pub mod Counts
 pub mod Steps
 pub mod Sound
 pub mod Complete

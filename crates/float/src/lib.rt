@@ -4,13 +4,16 @@ use err::FloatLit;
 use err::ParseErrorKind;
 use err::Reading;
 use err::Span;
+use parse::DigitRun;
 use scan::Byte;
-use scan::ByteSet;
 ghost use mathlib.Core.Path.{_≡_};
 ghost use Prim.Native.Nat.{_≤_, _<_};
 ghost use lib.ListN.{length};
 ghost use Rattle.err.specs.Reading.{outcomeOf};
-ghost use Rattle.float.specs.Float.{parsedOf, IsRefused, notInteger, badFraction, signEnd, noDigit, fractionEnd, exponentEnd, afterNumber, afterInteger, floatRead};
+ghost use Rattle.err.specs.Counts.{noCounts, countsOf, keptCounts};
+ghost use Rattle.digits.specs.Counts.{digitCounts};
+ghost use Rattle.float.specs.Float.{parsedOf, IsRefused, notInteger, badFraction, signEnd, fractionEnd, exponentEnd, afterNumber, afterInteger, floatRead};
+ghost use Rattle.float.specs.Counts.{parsedCounts, PartScan};
 
 // A float literal, or why a text is none.
 pub enum Parsed {
@@ -21,6 +24,7 @@ pub enum Parsed {
 // A literal with neither fraction nor exponent is an integer's.
 fn not_integer(lit: FloatLit) -> Parsed
     ensures { λ r. ⌜ parsedOf r ≡ notInteger (lit .«end_integer_part») (lit .«end_fractional_part») (lit .«end_number_part») ⌝ }
+    ensures { λ r. ⌜ parsedCounts r ≡ keptCounts (countsOf (Reading.Float lit)) (parsedOf r) ⌝ }
 {
     if lit.end_integer_part == lit.end_number_part {
         return Parsed::Refused(ParseErrorKind::UnexpectedIntegerLit, Span::Nowhere);
@@ -32,6 +36,7 @@ fn not_integer(lit: FloatLit) -> Parsed
 fn after_number(text: &[u8], lit: FloatLit) -> Parsed
     requires { ⌜ lit .«end_number_part» ≤ length (now text) ⌝ }
     ensures { λ r. ⌜ parsedOf r ≡ afterNumber (now (text .entry)) (lit .«end_integer_part») (lit .«end_fractional_part») (lit .«end_number_part») ⌝ }
+    ensures { λ r. ⌜ parsedCounts r ≡ keptCounts (countsOf (Reading.Float lit)) (parsedOf r) ⌝ }
 {
     let end = lit.end_number_part;
     // most literals have no suffix
@@ -61,14 +66,6 @@ fn sign_end(text: &[u8], at: usize) -> usize
     next
 }
 
-// Whether there is no digit, only `_`, from one offset to another.
-fn no_digit(text: &[u8], from: usize, end: usize) -> bool
-    requires { ⌜ (from ≤ end) × (end ≤ length (now text)) ⌝ }
-    ensures { λ r. ⌜ r ≡ noDigit (now (text .entry)) from end ⌝ }
-{
-    scan::run_len(&text[from..end], ByteSet::Only(b'_')) == end - from
-}
-
 // Whether what stands after the period may not: `_`, or, where no digit follows, anything.
 fn bad_fraction(text: &[u8], from: usize, end: usize) -> bool
     ensures { λ r. ⌜ r ≡ badFraction (now (text .entry)) from end ⌝ }
@@ -82,36 +79,47 @@ fn bad_fraction(text: &[u8], from: usize, end: usize) -> bool
     from < text.len()
 }
 
-// Where the fraction ends: after the period and its digits, if there is a period.
-fn fraction_end(text: &[u8], i: usize) -> usize
+// The fraction, if there is a period: where it ends, after the period and its digits, and how many digits it has.
+fn fraction_end(text: &[u8], i: usize) -> DigitRun
     requires { ⌜ i ≤ length (now text) ⌝ }
-    ensures { λ r. ⌜ (r ≡ fractionEnd (now (text .entry)) i) × (r ≤ length (now (text .entry))) ⌝ }
+    ensures { λ r. ⌜ PartScan i (fractionEnd (now (text .entry)) i) (now (text .entry)) r ⌝ }
 {
     if scan::byte_at(text, i) != b'.' {
-        return i;
+        return DigitRun { end: i, digits: 0 };
     }
     let from = i + 1;
-    from + digits::end_dec_digits(&text[from..])
+    let run = digits::end_dec_digits(&text[from..]);
+    DigitRun {
+        end: from + run.end,
+        digits: run.digits,
+    }
 }
 
-// Where the exponent ends: after `e`, its sign and its digits, if there is an `e`.
-fn exponent_end(text: &[u8], f: usize) -> usize
+// The exponent, if there is an `e`: where it ends, after `e`, its sign and its digits, and how many digits it has.
+fn exponent_end(text: &[u8], f: usize) -> DigitRun
     requires { ⌜ f ≤ length (now text) ⌝ }
-    ensures { λ r. ⌜ (r ≡ exponentEnd (now (text .entry)) f) × (r ≤ length (now (text .entry))) ⌝ }
+    ensures { λ r. ⌜ PartScan f (exponentEnd (now (text .entry)) f) (now (text .entry)) r ⌝ }
 {
     if !parse::has_e(text, f) {
-        return f;
+        return DigitRun { end: f, digits: 0 };
     }
     let from = sign_end(text, f);
-    from + digits::end_dec_digits(&text[from..])
+    let run = digits::end_dec_digits(&text[from..]);
+    DigitRun {
+        end: from + run.end,
+        digits: run.digits,
+    }
 }
 
 // After the integer part: fraction, exponent and suffix.
-fn after_integer(text: &[u8], i: usize) -> Parsed
-    requires { ⌜ i ≤ length (now text) ⌝ }
-    ensures { λ r. ⌜ parsedOf r ≡ afterInteger (now (text .entry)) i ⌝ }
+fn after_integer(text: &[u8], whole: DigitRun) -> Parsed
+    requires { ⌜ PartScan 0 (whole .end) (now text) whole ⌝ }
+    ensures { λ r. ⌜ parsedOf r ≡ afterInteger (now (text .entry)) (whole .end) ⌝ }
+    ensures { λ r. ⌜ parsedCounts r ≡ digitCounts (now (text .entry)) (parsedOf r) ⌝ }
 {
-    let f = fraction_end(text, i);
+    let i = whole.end;
+    let fraction = fraction_end(text, i);
+    let f = fraction.end;
     if i < f {
         let from = i + 1;
         if bad_fraction(text, from, f) {
@@ -121,9 +129,10 @@ fn after_integer(text: &[u8], i: usize) -> Parsed
             );
         }
     }
-    let end = exponent_end(text, f);
+    let exponent = exponent_end(text, f);
+    let end = exponent.end;
     if f < end {
-        if no_digit(text, sign_end(text, f), end) {
+        if exponent.digits == 0 {
             return Parsed::Refused(ParseErrorKind::NoExponentDigits, Span::Between(f, end));
         }
     }
@@ -133,6 +142,9 @@ fn after_integer(text: &[u8], i: usize) -> Parsed
             end_integer_part: i,
             end_fractional_part: f,
             end_number_part: end,
+            integer_digits: whole.digits,
+            fractional_digits: fraction.digits,
+            exponent_digits: exponent.digits,
         },
     )
 }
@@ -140,6 +152,7 @@ fn after_integer(text: &[u8], i: usize) -> Parsed
 // The float literal that a text is, or why it is none.
 fn parse_lit(text: &[u8]) -> Parsed
     ensures { λ r. ⌜ parsedOf r ≡ floatRead (now (text .entry)) ⌝ }
+    ensures { λ r. ⌜ parsedCounts r ≡ digitCounts (now (text .entry)) (parsedOf r) ⌝ }
 {
     let first = scan::get(text, 0);
     let Byte::At(b) = first else {
@@ -154,7 +167,7 @@ fn parse_lit(text: &[u8]) -> Parsed
 // The refusal as a reading.
 fn refusal(parsed: Parsed) -> Reading
     requires { ⌜ IsRefused parsed ⌝ }
-    ensures { λ r. ⌜ outcomeOf r ≡ parsedOf parsed ⌝ }
+    ensures { λ r. ⌜ (outcomeOf r ≡ parsedOf parsed) × (countsOf r ≡ noCounts) ⌝ }
 {
     match parsed {
         // ruled out by `requires`
@@ -163,9 +176,10 @@ fn refusal(parsed: Parsed) -> Reading
     }
 }
 
-// litrs's `FloatLit::parse`.
+// litrs's `FloatLit::parse`; the digits are counted besides (02, d).
 pub fn parse(text: &[u8]) -> Reading
     ensures { λ r. ⌜ outcomeOf r ≡ floatRead (now (text .entry)) ⌝ }
+    ensures { λ r. ⌜ countsOf r ≡ digitCounts (now (text .entry)) (floatRead (now (text .entry))) ⌝ }
 {
     let parsed = parse_lit(text);
     let Parsed::Lit(lit) = parsed else {

@@ -15,7 +15,7 @@ use Rattle.scan.proofs.Cases.{cond-in, cond-eq}
 use Rattle.parse.specs.Sets.{decDigit}
 use Rattle.parse.proofs.Classes.{within-ends, within-is, dec-digit-within}
 use Rattle.form_decimal.specs.Digits.{significant, insignificant, digitsOf, lastEnd}
-use Rattle.form_decimal.specs.Scaled.{part}
+use Rattle.scan.specs.Part.{part}
 
 pub significant-ends : (b : ℕ) → significant b ≡ true → (49 ≤ b) × (b ≤ 57)
 unfolding significant

@@ -14,7 +14,8 @@ use Rattle.form.specs.Form.{reducedForm}
 use Rattle.parse.specs.Class.{classOf}
 use Rattle.parse.specs.Sets.{decDigit}
 use Rattle.form_decimal.specs.Digits.{significant, insignificant, digitsOf, lastEnd}
-use Rattle.form_decimal.specs.Scaled.{part, floatAt, powerInRange}
+use Rattle.scan.specs.Part.{part}
+use Rattle.form_decimal.specs.Scaled.{floatAt, powerInRange}
 
 -- `00_1.5_00e+0_7f64`, whose parts end at 4, 9 and 14
 abbrev pub text : List ℕ

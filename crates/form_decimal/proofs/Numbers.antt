@@ -18,7 +18,7 @@ use Rattle.grammar.specs.Values.{digitValue, numberFrom}
 use Rattle.parse.specs.Sets.{decDigit}
 use Rattle.parse.proofs.Classes.{dec-digit-ends}
 use Rattle.form_decimal.specs.Digits.{significant, insignificant, digitsOf, lastEnd}
-use Rattle.form_decimal.specs.Scaled.{part}
+use Rattle.scan.specs.Part.{part}
 use Rattle.form_decimal.proofs.Digits.{not-insignificant, is-insignificant, last-insignificant, significant-ends, significant-digit, significant-within, digits-append, last-append, last-after}
 
 -- the number of digits after a number a

@@ -16,7 +16,8 @@ use Rattle.grammar.specs.Decimal.{Decimal, SameValue}
 use Rattle.form.specs.Reduced.{Reduced, reduce}
 use Rattle.form.proofs.Reduce.{same-iff, reduce-again}
 use Rattle.form_decimal.specs.Digits.{digitsOf, insignificant, lastEnd}
-use Rattle.form_decimal.specs.Scaled.{part, clamped, ScaledTo, Scales, scalingBy}
+use Rattle.scan.specs.Part.{part}
+use Rattle.form_decimal.specs.Scaled.{clamped, ScaledTo, Scales, scalingBy}
 use Rattle.form_decimal.specs.declared.Scaled.{Scaled}
 use Rattle.form_decimal.specs.declared.Scaling.{Scaling}
 use Rattle.form_decimal.proofs.Digits.{digits-short, last-le}

@@ -26,7 +26,8 @@ use Rattle.grammar.specs.Suffixes.{LOW}
 use Rattle.grammar.specs.Numbers.{SIGN}
 use Rattle.grammar.specs.Values.{digitValue, plain, numberFrom, numberIn}
 use Rattle.form_decimal.specs.Digits.{digitsOf}
-use Rattle.form_decimal.specs.Scaled.{part, floatAt}
+use Rattle.scan.specs.Part.{part}
+use Rattle.form_decimal.specs.Scaled.{floatAt}
 use Rattle.form_decimal.proofs.Digits.{digits-append}
 use Rattle.form_decimal.proofs.Numbers.{count, value}
 

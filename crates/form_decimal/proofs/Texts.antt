@@ -15,7 +15,8 @@ use Rattle.float.specs.Float.{floatRead}
 use Rattle.grammar.specs.Notation.{begins, byte}
 use Rattle.grammar.specs.Values.{numberIn}
 use Rattle.form_decimal.specs.Digits.{insignificant, digitsOf, lastEnd}
-use Rattle.form_decimal.specs.Scaled.{part, floatAt, clamped, Scales, scalingBy, exponentStart}
+use Rattle.scan.specs.Part.{part}
+use Rattle.form_decimal.specs.Scaled.{floatAt, clamped, Scales, scalingBy, exponentStart}
 use Rattle.form_decimal.proofs.Digits.{digits-short, last-le}
 use Rattle.form_decimal.proofs.Signs.{unsigned}
 use Rattle.form_decimal.proofs.Reducing.{scales-zero, scales-up, scales-down}

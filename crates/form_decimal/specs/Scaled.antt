@@ -5,11 +5,12 @@ use mathlib.Core.Bool.{Bool, true, false, cond}
 use mathlib.Core.List.{List}
 use Prim.Native.Nat.{ℕ, _+_, _-_, _≤_, _<_}
 use lib.Dec.{leb, ltb}
-use lib.ListN.{length, take, drop}
+use lib.ListN.{length}
 use Rattle.err.specs.Outcome.{accepted}
 use Rattle.err.specs.Reading.{valuesOfFloat}
 use Rattle.err.specs.declared.FloatLit.{FloatLit}
 use Rattle.scan.specs.Run.{run}
+use Rattle.scan.specs.Part.{part}
 use Rattle.buffer.specs.Digits.{decimal}
 use Rattle.grammar.specs.Decimal.{Decimal}
 use Rattle.grammar.specs.Values.{powered}
@@ -19,10 +20,6 @@ use Rattle.form_decimal.specs.Digits.{insignificant, digitsOf, lastEnd}
 use Rattle.form_decimal.specs.declared.Scaled.{Scaled}
 use Rattle.form_decimal.specs.declared.Scaling.{Scaling}
 use Rattle.form_decimal.specs.declared.Scaling.the-variants as scaling
-
--- the bytes from one offset to another
-abbrev pub part : ℕ → ℕ → List ℕ → List ℕ
-part a e s = take (e - a) (drop a s)
 
 -- the digits up to the first end, those after a period up to the second, and the exponent after an `e` up to the third
 unfoldable pub floatAt : List ℕ → ℕ → ℕ → ℕ → Decimal

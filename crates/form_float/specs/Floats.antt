@@ -5,7 +5,7 @@ use mathlib.Core.List.{List, _∷_, _++_}
 use Prim.Native.Nat.{ℕ}
 use Rattle.buffer.specs.Digits.{decimal}
 use Rattle.form_decimal.specs.Digits.{digitsOf}
-use Rattle.form_decimal.specs.Scaled.{part}
+use Rattle.scan.specs.Part.{part}
 use Rattle.form_decimal.specs.declared.Scaled.{Scaled}
 use Rattle.form_float.specs.declared.FormLen.{FormLen}
 use Rattle.form_float.specs.declared.FormLen.the-variants as answer

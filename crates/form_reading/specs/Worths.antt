@@ -10,7 +10,8 @@ use Rattle.grammar.specs.Meaning.{Worth}
 use Rattle.grammar.specs.Meaning as worth
 use Rattle.integer_value.specs.Value.{number}
 use Rattle.string.specs.String.{stringValue}
-use Rattle.form_decimal.specs.Scaled.{part, floatAt}
+use Rattle.scan.specs.Part.{part}
+use Rattle.form_decimal.specs.Scaled.{floatAt}
 
 -- the value of kinds 4 and 6
 abbrev pub singleWorth : ℕ → ℕ → Worth

@@ -23,7 +23,7 @@ ghost use Rattle.utf8.specs.Utf8.{Scalar};
 ghost use Rattle.grammar.specs.Meaning as worth;
 ghost use Rattle.form.specs.Form.{bareForm};
 ghost use Rattle.integer_value.specs.Value.{numberWithin, number};
-ghost use Rattle.form_decimal.specs.Scaled.{part};
+ghost use Rattle.scan.specs.Part.{part};
 ghost use Rattle.literal.specs.Readings.{readAt};
 ghost use Rattle.form_reading.specs.Bare.{bareOf, bareBy, bareFormBy, Roomy};
 

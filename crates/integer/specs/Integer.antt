@@ -8,13 +8,16 @@ use lib.Dec.{eqb}
 use lib.ListN.{length, getD, take, drop}
 use Rattle.err.specs.Outcome.{Outcome, refused, accepted, none, between, digits}
 use Rattle.err.specs.Reading.{baseOf, prefixOf, outcomeOf}
+use Rattle.err.specs.Counts.{Counts, noCounts, countsOf}
 use Rattle.err.specs.declared.IntegerBase.{IntegerBase}
 use Rattle.err.specs.declared.IntegerLit.{IntegerLit}
 use Rattle.err.specs.declared.Reading.the-variants as reading
 use Rattle.scan.specs.Run.{run}
 use Rattle.scan.specs.Same.{same}
 use Rattle.scan.specs.Sets.{only}
+use Rattle.scan.specs.Part.{part}
 use Rattle.parse.specs.Sets.{digit, decDigit, startsE}
+use Rattle.parse.specs.Digits.{digitCount}
 use Rattle.suffix.specs.Suffix.{suffixFault}
 use Rattle.integer.specs.declared.Parsed.{Parsed}
 use Rattle.integer.specs.declared.Parsed.the-variants as parsed
@@ -84,6 +87,11 @@ abbrev pub parsedOf : Parsed → Outcome
 parsedOf (parsed.Lit l) = outcomeOf (reading.Integer l)
 parsedOf (parsed.Refused k p) = outcomeOf (reading.Refused k p)
 
+-- the counts that it holds
+abbrev pub parsedCounts : Parsed → Counts
+parsedCounts (parsed.Lit l) = countsOf (reading.Integer l)
+parsedCounts (parsed.Refused k p) = noCounts
+
 -- whether an answer is a refusal; serves a contract between functions
 abbrev pub IsRefused : Parsed → Type 0
 IsRefused (parsed.Lit l) = ⊥
@@ -95,3 +103,4 @@ pub record Scanned (l : IntegerLit) (s : List ℕ) : Type 0 where
   pub start : l .«start_main_part» ≡ prefixLen (baseAt s)
   pub end : l .«end_main_part» ≡ l .«start_main_part» + mainLen s
   pub fits : l .«end_main_part» ≤ length s
+  pub count : l .digits ≡ digitCount (baseOf (l .base)) (part (l .«start_main_part») (l .«end_main_part») s)

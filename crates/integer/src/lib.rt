@@ -5,16 +5,16 @@ use err::IntegerLit;
 use err::ParseErrorKind;
 use err::Reading;
 use err::Span;
-use parse::ClassSet;
+use parse::DigitRun;
 use scan::Byte;
-use scan::ByteSet;
 ghost use mathlib.Core.Path.{_≡_};
 ghost use Prim.Native.Nat.{_≤_};
 ghost use lib.ListN.{length};
 ghost use Rattle.err.specs.Reading.{outcomeOf, baseOf, prefixOf};
-ghost use Rattle.scan.specs.Run.{run};
-ghost use Rattle.parse.specs.Sets.{digit};
-ghost use Rattle.integer.specs.Integer.{baseAt, hasPrefix, Scanned, parsedOf, IsRefused, afterSuffix, integerAt, integerRead};
+ghost use Rattle.err.specs.Counts.{noCounts, countsOf, keptCounts};
+ghost use Rattle.parse.specs.Digits.{DigitScan};
+ghost use Rattle.digits.specs.Counts.{digitCounts};
+ghost use Rattle.integer.specs.Integer.{baseAt, hasPrefix, Scanned, parsedOf, parsedCounts, IsRefused, afterSuffix, integerAt, integerRead};
 
 // An integer literal, or why a text is none.
 pub enum Parsed {
@@ -54,28 +54,29 @@ fn base_of(text: &[u8]) -> IntegerBase
     IntegerBase::Decimal
 }
 
-// How many digits and `_` stand at the front.
-fn main_len(s: &[u8], base: IntegerBase) -> usize
-    ensures { λ r. ⌜ r ≡ run (digit (baseOf base)) (now (s .entry)) ⌝ }
+// The digits and `_` at the front.
+fn main_part(s: &[u8], base: IntegerBase) -> DigitRun
+    ensures { λ r. ⌜ DigitScan (baseOf base) (now (s .entry)) r ⌝ }
 {
     let IntegerBase::Decimal = base else {
-        return parse::run_len(s, ClassSet::Digits(base.value()));
+        return parse::digit_run(s, base.value());
     };
     digits::end_dec_digits(s)
 }
 
-// The base, and where the digits start and end.
+// The base, where the digits start and end, and how many there are.
 fn scan(text: &[u8]) -> IntegerLit
     ensures { λ r. ⌜ Scanned r (now (text .entry)) ⌝ }
 {
     let base = base_of(text);
     let prefix = base.prefix();
     let start = prefix.len;
-    let n = main_len(&text[start..], base);
+    let main = main_part(&text[start..], base);
     IntegerLit {
         base,
         start_main_part: start,
-        end_main_part: start + n,
+        end_main_part: start + main.end,
+        digits: main.digits,
     }
 }
 
@@ -83,6 +84,7 @@ fn scan(text: &[u8]) -> IntegerLit
 fn check_end(text: &[u8], lit: IntegerLit) -> Parsed
     requires { ⌜ lit .«end_main_part» ≤ length (now text) ⌝ }
     ensures { λ r. ⌜ parsedOf r ≡ afterSuffix (now (text .entry)) (lit .«end_main_part») (parsedOf (Parsed.Lit lit)) ⌝ }
+    ensures { λ r. ⌜ parsedCounts r ≡ keptCounts (parsedCounts (Parsed.Lit lit)) (parsedOf r) ⌝ }
 {
     let end = lit.end_main_part;
     // most literals have no suffix
@@ -102,6 +104,7 @@ fn check_end(text: &[u8], lit: IntegerLit) -> Parsed
 // Of a text whose first byte is a decimal digit.
 fn parse_impl(text: &[u8]) -> Parsed
     ensures { λ r. ⌜ parsedOf r ≡ integerAt (now (text .entry)) ⌝ }
+    ensures { λ r. ⌜ parsedCounts r ≡ digitCounts (now (text .entry)) (parsedOf r) ⌝ }
 {
     let lit = scan(text);
     let checked = check_end(text, lit);
@@ -110,22 +113,23 @@ fn parse_impl(text: &[u8]) -> Parsed
     };
     let start = lit.start_main_part;
     let end = lit.end_main_part;
-    let n = end - start;
     if parse::has_e(text, end) {
+        let n = end - start;
         return Parsed::Refused(
             ParseErrorKind::IntegerSuffixStartingWithE,
             Span::Between(n, n + 1),
         );
     }
-    if scan::run_len(&text[start..end], ByteSet::Only(b'_')) == n {
+    if lit.digits == 0 {
         return Parsed::Refused(ParseErrorKind::NoDigits, Span::Between(start, end));
     }
-    checked
+    Parsed::Lit(lit)
 }
 
 // The integer literal that a text is, or why it is none.
 fn parse_lit(text: &[u8]) -> Parsed
     ensures { λ r. ⌜ parsedOf r ≡ integerRead (now (text .entry)) ⌝ }
+    ensures { λ r. ⌜ parsedCounts r ≡ digitCounts (now (text .entry)) (parsedOf r) ⌝ }
 {
     let first = scan::get(text, 0);
     let Byte::At(b) = first else {
@@ -140,7 +144,7 @@ fn parse_lit(text: &[u8]) -> Parsed
 // The refusal as a reading.
 fn refusal(parsed: Parsed) -> Reading
     requires { ⌜ IsRefused parsed ⌝ }
-    ensures { λ r. ⌜ outcomeOf r ≡ parsedOf parsed ⌝ }
+    ensures { λ r. ⌜ (outcomeOf r ≡ parsedOf parsed) × (countsOf r ≡ noCounts) ⌝ }
 {
     match parsed {
         // ruled out by `requires`
@@ -149,9 +153,10 @@ fn refusal(parsed: Parsed) -> Reading
     }
 }
 
-// litrs's `IntegerLit::parse`.
+// litrs's `IntegerLit::parse`; the digits are counted besides (02, d).
 pub fn parse(text: &[u8]) -> Reading
     ensures { λ r. ⌜ outcomeOf r ≡ integerRead (now (text .entry)) ⌝ }
+    ensures { λ r. ⌜ countsOf r ≡ digitCounts (now (text .entry)) (integerRead (now (text .entry))) ⌝ }
 {
     let parsed = parse_lit(text);
     let Parsed::Lit(lit) = parsed else {

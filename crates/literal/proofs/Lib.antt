@@ -1,5 +1,6 @@
 pub mod Starts
 pub mod KindLaws
+pub mod Counted
 pub mod Openings
 pub mod Entries
 pub mod Dispatch

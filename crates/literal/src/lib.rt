@@ -21,6 +21,8 @@ ghost use Rattle.integer_value.specs.Value.{valuedOf};
 ghost use Rattle.err.specs.Outcome.{Place};
 ghost use Rattle.err.specs.Answer.{refusal};
 ghost use Rattle.err.specs.Reading.{outcomeOf};
+ghost use Rattle.err.specs.Counts.{countsOf};
+ghost use Rattle.digits.specs.Counts.{digitCounts};
 ghost use Rattle.body.specs.Quote.{refused, quoteOf, IsRefused};
 ghost use Rattle.string.specs.Decode.{decodedOf};
 ghost use Rattle.literal.specs.Readings.{quoteIn, stringKindIn, entryRead, readAt};
@@ -74,6 +76,7 @@ fn kind_of(entry: u64) -> Allowed
 fn entry(code: u64, text: &[u8]) -> Reading
     requires { ⌜ (code ≤ 8) × (length (now text) ≤ 65536) ⌝ }
     ensures { λ r. ⌜ outcomeOf r ≡ entryRead code (now (text .entry)) ⌝ }
+    ensures { λ r. ⌜ countsOf r ≡ digitCounts (now (text .entry)) (entryRead code (now (text .entry))) ⌝ }
 {
     let e = dispatch::chosen(code, text);
     match e {
@@ -86,9 +89,10 @@ fn entry(code: u64, text: &[u8]) -> Reading
     }
 }
 
-// The reading of a text by entry code.
+// The reading of a text by entry code, and how many digits a number's parts have.
 pub fn read(code: u64, text: &[u8]) -> Reading
     ensures { λ r. ⌜ outcomeOf r ≡ readAt code (now (text .entry)) ⌝ }
+    ensures { λ r. ⌜ countsOf r ≡ digitCounts (now (text .entry)) (readAt code (now (text .entry))) ⌝ }
     ensures { λ r. ⌜ now (text .exit) ≡ now (text .entry) ⌝ }
 {
     if 8 < code {

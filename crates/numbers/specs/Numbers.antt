@@ -2,9 +2,10 @@
 -- Assumes nothing.
 use Prim.Native.Nat.{ℕ}
 use mathlib.Core.Bool.{Bool, true, false}
-use mathlib.Core.List.{List, [], _∷_}
+use mathlib.Core.List.{List, [], _∷_, _++_}
 use Rattle.err.specs.Outcome.{Place, none, between, Rawness, notRaw, raw, Values, truth, digits, ends, value, decoded, Outcome, refused, accepted}
 use Rattle.err.specs.Reading.{valuesOfString}
+use Rattle.err.specs.Counts.{Counts, noCounts, integerCount, floatCounts}
 use Rattle.err.specs.declared.StringLit.{StringLit}
 
 -- 01: "A reading holds kind, start of suffix": the kind of an accepted one, else 0; serves contracts between functions
@@ -41,11 +42,21 @@ valueNumbers (ends z) = z .whole ∷ z .fraction ∷ z .end ∷ []
 valueNumbers (value v) = v ∷ 0 ∷ 0 ∷ []
 valueNumbers (decoded v) = hashNumbers (v .hashes) (v .len)
 
--- a reading as five numbers: kind, start of suffix and values; or 0, the refusal number and the span
-abbrev pub readingNumbers : Outcome → List ℕ
-readingNumbers (refused n p) = 0 ∷ n ∷ placeNumbers p
-readingNumbers (accepted k e vs) = k ∷ e ∷ valueNumbers vs
+-- an outcome as five numbers: kind, start of suffix and values; or 0, the refusal number and the span
+abbrev pub outcomeNumbers : Outcome → List ℕ
+outcomeNumbers (refused n p) = 0 ∷ n ∷ placeNumbers p
+outcomeNumbers (accepted k e vs) = k ∷ e ∷ valueNumbers vs
 
--- the same of a literal of a string's kind
+-- the counts of digits (02, d) as three numbers, zeros where there are none: an integer's; a float's in whole part, fraction and exponent
+abbrev pub countNumbers : Counts → List ℕ
+countNumbers noCounts = 0 ∷ 0 ∷ 0 ∷ []
+countNumbers (integerCount n) = n ∷ 0 ∷ 0 ∷ []
+countNumbers (floatCounts c) = c .whole ∷ c .fraction ∷ c .exponent ∷ []
+
+-- a reading as eight numbers
+abbrev pub readingNumbers : Outcome → Counts → List ℕ
+readingNumbers o c = outcomeNumbers o ++ countNumbers c
+
+-- a literal of a string's kind, which has no counts
 abbrev pub stringNumbers : ℕ → StringLit → List ℕ
-stringNumbers k l = readingNumbers (accepted k (l .«start_suffix») (valuesOfString l))
+stringNumbers k l = readingNumbers (accepted k (l .«start_suffix») (valuesOfString l)) noCounts

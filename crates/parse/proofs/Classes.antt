@@ -12,7 +12,7 @@ use Rattle.scan.proofs.Below.{everyBelow, below, alike, agreed}
 use Rattle.parse.specs.Class.{classOf, within}
 use Rattle.parse.specs.Sets.{inClass, inSet, digit, suffixRest, blank, decDigit, hexDigitOf}
 use Rattle.parse.specs.declared.ClassSet.{ClassSet}
-use Rattle.parse.specs.declared.ClassSet.the-variants.{Digits, SuffixRest, Blanks}
+use Rattle.parse.specs.declared.ClassSet.the-variants.{SuffixRest, Blanks}
 use Rattle.parse.specs.declared.HexDigit.{HexDigit}
 use Rattle.parse.specs.declared.HexDigit.the-variants.{Value}
 
@@ -77,8 +77,7 @@ class-underscore-is = everywhere (λ b. eqb (classOf b) 16) (λ b. eqb b 95) tt 
 
 -- a test of a byte by a set is a test of its class
 pub set-class : (set : ClassSet) (b : ℕ) → inSet set b ≡ inClass set (classOf b)
-unfolding digit suffixRest blank
-set-class (Digits base) b = refl
+unfolding suffixRest blank
 set-class SuffixRest b = refl
 set-class Blanks b = refl
 

@@ -7,20 +7,19 @@ use lib.Dec.{ltb, eqb}
 use lib.ListN.{getD}
 use Rattle.parse.specs.Class.{classOf}
 use Rattle.parse.specs.declared.ClassSet.{ClassSet}
-use Rattle.parse.specs.declared.ClassSet.the-variants.{Digits, SuffixRest, Blanks}
+use Rattle.parse.specs.declared.ClassSet.the-variants.{SuffixRest, Blanks}
 use Rattle.parse.specs.declared.HexDigit.{HexDigit}
 use Rattle.parse.specs.declared.HexDigit.the-variants.{Value, NotHex}
 
--- which classes a set has: the digits below a base and `_` (litrs's is_valid_digit); ASCII letters, digits, `_` and all above 127
--- (01, Suffix and digits: "a later ASCII character other than letter, digit or `_` is 39. Non-ASCII always passes"); space, tab and
--- LF (01, Escapes: a dropped line break drops "all following spaces, tabs and LFs")
+-- which classes a set has: ASCII letters, digits, `_` and all above 127 (01, Suffix and digits: "a later ASCII character other than letter, digit or `_` is
+-- 39. Non-ASCII always passes"); space, tab and LF (01, Escapes: a dropped line break drops "all following spaces, tabs and LFs")
 abbrev pub inClass : ClassSet → ℕ → Bool
-inClass (Digits base) c = eqb c 16 || ltb c base
 inClass SuffixRest c = eqb c 20 || ltb c 18
 inClass Blanks c = eqb c 18
 
+-- a digit below a base, or `_` (litrs's is_valid_digit)
 unfoldable pub digit : ℕ → ℕ → Bool
-digit base b = inClass (Digits base) (classOf b)
+digit base b = eqb (classOf b) 16 || ltb (classOf b) base
 
 unfoldable pub suffixRest : ℕ → Bool
 suffixRest b = inClass SuffixRest (classOf b)
@@ -29,7 +28,6 @@ unfoldable pub blank : ℕ → Bool
 blank b = inClass Blanks (classOf b)
 
 abbrev pub inSet : ClassSet → ℕ → Bool
-inSet (Digits base) = digit base
 inSet SuffixRest = suffixRest
 inSet Blanks = blank
 

@@ -4,6 +4,7 @@ ghost use Prim.Native.Nat.{_<_};
 ghost use Rattle.scan.specs.Run.{run};
 ghost use Rattle.parse.specs.Class.{classOf};
 ghost use Rattle.parse.specs.Sets.{decDigit, inSet, inClass, hexDigitOf, startsE};
+ghost use Rattle.parse.specs.Digits.{DigitScan};
 
 // Below `0`.
 fn low_class(b: u8) -> u8
@@ -58,9 +59,32 @@ pub fn class_of(b: u8) -> u8
     if b < 128 { 19 } else { 20 }
 }
 
-// A set of bytes that a scan passes over: the digits below a base and `_`; what may follow in a suffix; what a dropped line break drops.
+// Where digits and `_` at the front of a text end, and how many of these bytes are digits.
+pub struct DigitRun {
+    pub end: usize,
+    pub digits: usize,
+}
+
+// The digits of a base, at most 16, and `_`, at the front.
+pub fn digit_run(s: &[u8], base: u8) -> DigitRun
+    ensures { λ r. ⌜ DigitScan base (now (s .entry)) r ⌝ }
+{
+    let mut digits = 0;
+    let mut i = 0;
+    while i < s.len() {
+        let class = class_of(s[i]);
+        if class < base {
+            digits += 1;
+        } else if class != 16 {
+            return DigitRun { end: i, digits };
+        }
+        i += 1;
+    }
+    DigitRun { end: i, digits }
+}
+
+// A set of bytes that a scan passes over: what may follow in a suffix; what a dropped line break drops.
 pub enum ClassSet {
-    Digits(u8),
     SuffixRest,
     Blanks,
 }
@@ -70,7 +94,6 @@ fn is_in(class: u8, set: ClassSet) -> bool
     ensures { λ r. ⌜ r ≡ inClass set class ⌝ }
 {
     match set {
-        ClassSet::Digits(base) => if class == 16 { true } else { class < base },
         ClassSet::SuffixRest => if class == 20 { true } else { class < 18 },
         ClassSet::Blanks => class == 18,
     }

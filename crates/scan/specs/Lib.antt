@@ -4,3 +4,4 @@ pub mod Same
 pub mod Run
 pub mod Sets
 pub mod Windows
+pub mod Part

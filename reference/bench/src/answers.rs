@@ -1,12 +1,14 @@
 //! What both sides answer to a text, in one shape, so that a row is timed only where they agree.
 
 use crate::common::answer::{self, Reading, Refusal, Value};
+use crate::common::keyed;
 use crate::rows::{Call, Row};
 use crate::{ours, rust, two_pass};
+use litrs::Literal;
 use std::str::from_utf8;
 
-/// A reading as include/keybasket.h sets it out: kind, start of suffix and values; or 0, the refusal number and the span.
-pub type Numbers = [u64; 5];
+/// A reading as include/keybasket.h sets it out: kind, start of suffix, values and counts of digits; or 0, the refusal number and the span.
+pub type Numbers = [u64; 8];
 
 /// A refusal number.
 pub type Refused = u8;
@@ -58,9 +60,12 @@ fn cut(text: &str) -> String {
 fn our_answer(call: Call, text: &[u8]) -> Answer {
     let mut out = vec![165; BUFFER];
     match call {
-        Call::Read => {
-            let mut numbers = [0; 5];
-            ours::read(text, &mut numbers);
+        Call::Read | Call::ReadKeyed => {
+            let mut numbers = [165; 8];
+            match call {
+                Call::Read => ours::read(text, &mut numbers),
+                _ => ours::read_keyed(text, &mut numbers),
+            }
             Answer::Reading(numbers)
         }
         Call::Value => ours::value(text).map_or_else(Answer::Refused, Answer::Value),
@@ -73,13 +78,17 @@ fn our_answer(call: Call, text: &[u8]) -> Answer {
 fn rust_answer(call: Call, text: &[u8]) -> Answer {
     let Ok(text) = from_utf8(text) else {
         return match call {
-            Call::Read => Answer::Reading([0, answer::NOT_UTF8.into(), 0, 0, 0]),
+            Call::Read | Call::ReadKeyed => Answer::Reading(numbers("", Err(Refusal::plain(answer::NOT_UTF8)))),
             _ => Answer::Refused(answer::NOT_UTF8),
         };
     };
     let mut out = vec![90; BUFFER];
     match call {
-        Call::Read => Answer::Reading(numbers(answer::read_checked(0, text))),
+        Call::Read => Answer::Reading(numbers(text, answer::read_checked(0, text))),
+        Call::ReadKeyed if rust::too_many_digits(&Literal::parse(text)) => {
+            Answer::Reading(numbers(text, Err(Refusal::plain(keyed::TOO_MANY_DIGITS))))
+        }
+        Call::ReadKeyed => Answer::Reading(numbers(text, answer::read_checked(0, text))),
         Call::Value => match rust::value(text) {
             Ok(Some(number)) => Answer::Value(number),
             Ok(None) => Answer::Refused(answer::NO_VALUE),
@@ -110,12 +119,16 @@ fn written(answer: Result<usize, Refused>, mut out: Vec<u8>) -> Answer {
 }
 
 /// The numbers of a reading of the reference.
-fn numbers(found: Result<Reading, Refusal>) -> Numbers {
+fn numbers(text: &str, found: Result<Reading, Refusal>) -> Numbers {
     let found = match found {
         Ok(found) => found,
-        Err(Refusal { number, span: None }) => return [0, number.into(), 0, 0, 0],
-        Err(Refusal { number, span: Some((start, end)) }) => return [0, number.into(), 1, start as u64, end as u64],
+        Err(Refusal { number, span: None }) => return [0, number.into(), 0, 0, 0, 0, 0, 0],
+        Err(Refusal { number, span: Some((start, end)) }) => {
+            return [0, number.into(), 1, start as u64, end as u64, 0, 0, 0]
+        }
     };
+    let mut counts = keyed::digit_counts(text.as_bytes(), &found).into_iter().map(|n| n as u64);
+    let mut count = || counts.next().unwrap_or(0);
     let [a, b, c] = match found.value {
         Value::Bool(truth) => [truth.into(), 0, 0],
         Value::Integer { base, start, end } => [base.into(), start as u64, end as u64],
@@ -126,5 +139,5 @@ fn numbers(found: Result<Reading, Refusal>) -> Numbers {
         Value::Byte(b) => [b.into(), 0, 0],
         Value::Quoted { hashes, bytes } => [hashes.is_some().into(), hashes.unwrap_or(0) as u64, bytes.len() as u64],
     };
-    [found.kind.into(), found.suffix as u64, a, b, c]
+    [found.kind.into(), found.suffix as u64, a, b, c, count(), count(), count()]
 }

@@ -51,7 +51,7 @@ fn run() -> Result<(), String> {
         return Err(format!("no row has `{word}` in its name"));
     }
     rows.iter().try_for_each(answers::agree)?;
-    let mut lent = Lent { ours: vec![165; answers::BUFFER], theirs: vec![165; answers::BUFFER], numbers: [0; 5] };
+    let mut lent = Lent { ours: vec![165; answers::BUFFER], theirs: vec![165; answers::BUFFER], numbers: [0; 8] };
     let mut timed: Vec<Timed> = rows.iter().map(Timed::new).collect();
     for row in &mut timed {
         row.calibrate(&mut lent);
@@ -154,6 +154,14 @@ impl<'a> Timed<'a> {
         let times = Times { row: self, side, repetitions };
         match self.row.call {
             Call::Read => times.of(|text| ours::read(text, black_box(numbers)), |text| kept(Literal::parse(text))),
+            Call::ReadKeyed => times.of(
+                |text| ours::read_keyed(text, black_box(numbers)),
+                |text| {
+                    let reading = Literal::parse(text);
+                    kept(rust::too_many_digits(&reading));
+                    kept(reading);
+                },
+            ),
             Call::Value => times.of(|text| kept(ours::value(text)), |text| kept(rust::value(text))),
             Call::DecodeOwned(entry) => times.of(
                 |text| kept(ours::decode(entry, text, black_box(ours))),

@@ -13,17 +13,23 @@ use keybasket as _;
 
 extern "C" {
     fn keybasket_read(entry: u64, text: *const u8, text_len: usize, answer: *mut u64);
+    fn keybasket_read_keyed(text: *const u8, text_len: usize, answer: *mut u64);
     fn keybasket_value(ty: u64, text: *const u8, text_len: usize, value: *mut u64) -> usize;
     fn keybasket_decode(entry: u64, text: *const u8, text_len: usize, out: *mut u8, out_len: usize) -> usize;
     fn keybasket_settle(text: *const u8, text_len: usize, out: *mut u8, out_len: usize) -> usize;
 }
 
-// SAFETY, of all four: pointers and lengths are those of slices or locals, whose bytes all have values and which are not null; what
+// SAFETY, of all five: pointers and lengths are those of slices or locals, whose bytes all have values and which are not null; what
 // is written is lent to the call alone.
 
-/// Writes the five numbers of the reading by entry 0.
+/// Writes the eight numbers of the reading by entry 0.
 pub fn read(text: &[u8], answer: &mut Numbers) {
     unsafe { keybasket_read(0, text.as_ptr(), text.len(), answer.as_mut_ptr()) };
+}
+
+/// Writes the eight numbers of the reading by the keyed entry.
+pub fn read_keyed(text: &[u8], answer: &mut Numbers) {
+    unsafe { keybasket_read_keyed(text.as_ptr(), text.len(), answer.as_mut_ptr()) };
 }
 
 /// The value of an integer as u64.

@@ -22,10 +22,13 @@ const PLAIN: &str = "Marion Tinsley, 1850; ";
 /// What is timed on both sides. A buffer is lent from outside, the same one at each call, and is not cleared in between.
 #[derive(Clone, Copy)]
 pub enum Call {
-    /// Ours: keybasket_read by entry 0 into five lent numbers, which have the length of a string's value, but not its bytes. The Rust:
+    /// Ours: keybasket_read by entry 0 into eight lent numbers, which have the length of a string's value, but not its bytes. The Rust:
     /// `Literal::parse`, which allocates and writes the value where a string has escapes, and for every C string; freeing it is timed
-    /// too. Neither side's answer is copied.
+    /// too. Neither side's answer is copied. Ours counts the digits of a number, the Rust does not.
     Read,
+    /// Ours: keybasket_read_keyed into eight lent numbers. The Rust: `Literal::parse`, and then a count of the digits of an integer's main
+    /// part, or of a float's integer part and fractional part.
+    ReadKeyed,
     /// Ours: keybasket_value at u64. The Rust: `IntegerLit::parse` and `value::<u64>()`.
     Value,
     /// Ours: keybasket_decode into a lent buffer. The Rust: `parse` by the same kind and `into_value`, made owned: it is allocated, and
@@ -44,6 +47,7 @@ impl Call {
     fn name(self) -> &'static str {
         match self {
             Call::Read => "read",
+            Call::ReadKeyed => "read, keyed",
             Call::Value => "value",
             Call::DecodeOwned(_) => "decode, owned",
             Call::DecodeLent(_) => "decode, lent",
@@ -85,6 +89,7 @@ struct Text {
 /// Every row, in the order of the table.
 pub fn all() -> Vec<Row> {
     let mut rows = reading();
+    rows.extend(keyed_reading());
     rows.extend(values());
     rows.extend(decoding());
     rows.extend(settling());
@@ -225,6 +230,15 @@ fn reading() -> Vec<Row> {
         rows.extend(long_refused(size).into_iter().map(|text| long(Call::Read, text, false)));
     }
     rows
+}
+
+/// A rating, a sheet's ratings, and a number from a key held down for 41 digits.
+fn keyed_reading() -> Vec<Row> {
+    vec![
+        short(Call::ReadKeyed, "integer, 1850", &["1850"], true),
+        short(Call::ReadKeyed, "a sheet's 10 ratings", RATINGS, true),
+        short(Call::ReadKeyed, "refused, 41 digits", &["18500000000000000000000000000000000000000"], false),
+    ]
 }
 
 // ---- long texts --------------------------------------------------------------------------------------------------------

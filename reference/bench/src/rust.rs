@@ -1,8 +1,27 @@
-//! The Rust's side of each call, from a checked text on. Reading is `Literal::parse` itself.
+//! The Rust's side of each call, from a checked text on. Reading by entry 0 is `Literal::parse` itself.
 
 use crate::common::answer::{self, Refusal};
 use crate::common::settle;
-use litrs::{ByteStringLit, CStringLit, IntegerLit, ParseError, StringLit};
+use litrs::{ByteStringLit, CStringLit, IntegerLit, Literal, ParseError, StringLit};
+
+/// How many digits a number may have by the keyed entry.
+const MOST_DIGITS: usize = 40;
+
+/// Whether an accepted integer, or an accepted float's integer part and fractional part together, has too many digits. The reading is taken
+/// by reference: moving the literal on into another result takes longer.
+pub fn too_many_digits(reading: &Result<Literal<&str>, ParseError>) -> bool {
+    let count = match reading {
+        Ok(Literal::Integer(l)) => digits(l.raw_main_part()),
+        Ok(Literal::Float(l)) => digits(l.integer_part()) + l.fractional_part().map_or(0, digits),
+        _ => 0,
+    };
+    count > MOST_DIGITS
+}
+
+/// How many digits a part of a number has. litrs leaves no other bytes in it than these and `_`.
+fn digits(part: &str) -> usize {
+    part.bytes().filter(|&b| b != b'_').count()
+}
 
 /// The value of an integer as u64, `None` where it is too large.
 pub fn value(text: &str) -> Result<Option<u64>, ParseError> {

@@ -6,7 +6,7 @@ mod common;
 
 use common::{
     answer::{self, Reading, Refusal, Value},
-    settle,
+    keyed, settle,
 };
 use std::io::{self, BufReader, BufWriter, Read, Write};
 
@@ -84,6 +84,7 @@ fn line(r: &Record) -> String {
         b'V' => answer::integer_value(r.code, &r.text).map_or_else(refusal, |v| format!("ok {v}")),
         b'D' => decode_line(r),
         b'S' => settle_line(r),
+        b'K' => keyed_line(r),
         b'I' => format!("ok {}", answer::integer_from_suffix(&r.text)),
         b'F' => format!("ok {}", answer::float_from_suffix(&r.text)),
         _ => "bad operation".to_string(),
@@ -125,6 +126,14 @@ fn settle_line(r: &Record) -> String {
     match settle::settle(&r.text, &mut out) {
         Ok((kind, n)) => format!("ok {kind} {n} {} {}", hex(&out[..n]), state(&out[n..])),
         Err(e) => format!("{} {}", refusal(e), state(&out)),
+    }
+}
+
+/// The line of `R` by entry 0, and then the counts of digits.
+fn keyed_line(r: &Record) -> String {
+    match keyed::read(&r.text) {
+        Ok((reading, counts)) => counts.iter().fold(values(&reading), |line, n| format!("{line} {n}")),
+        Err(e) => refusal(e),
     }
 }
 

@@ -1,48 +1,23 @@
 -- `batch_line::put_refusal` meets its contract.
 -- Assumes nothing.
-use Rattle.batch_line.specs.Lines.{refusalLine}
 use borrow.Author.Needs.{needs}
-use Rattle.batch_line.proofs.Laws as laws
 use Rattle.batch_line.proofs.put_refusal.Statement.{statement}
 use Rattle.batch_line.proofs.put_refusal.Tie as tie
-
-slice-aggregate-add : tie.Need-slice-aggregate-add
-slice-aggregate-add c = search needs
-
-add-requires : tie.Need-add-requires
-add-requires c κs = search needs
 
 number-requires : tie.Need-number-requires
 number-requires c κs = search needs
 
-cast-add-number : tie.Need-cast-add-number
-cast-add-number c = search needs
+cast-put-no : tie.Need-cast-put-no
+cast-put-no c = search needs
 
-add-number-requires : tie.Need-add-number-requires
-add-number-requires c κs = search needs
-
-add-span-requires : tie.Need-add-span-requires
-add-span-requires c κs = search needs
+put-no-requires : tie.Need-put-no-requires
+put-no-requires c κs = search needs
 
 same-length : tie.Need-same-length
 same-length c = search needs
 
 returns : tie.Need-returns
-unfolding refusalLine
-returns c =
-    let p = c .before .before .before .before .before .before in
-    let n = p .before .number .ensures in
-    (rw (← n) (laws.also (laws.first (c .before .before .before .before .before .before .before .before .before .before .before .add .ensures)) (laws.added (p .add-number .ensures .0) (c .before .before .add-span .ensures .0) (search needs))), search needs)
+returns c = rw (← c .before .before .before .number .ensures) (c .before .before .put-no .ensures)
 
 pub put-refusal-spec : {M : Type 1} → statement M
-put-refusal-spec =
-    tie.close
-    (tie.spec
-    slice-aggregate-add
-    add-requires
-    number-requires
-    cast-add-number
-    add-number-requires
-    add-span-requires
-    same-length
-    returns)
+put-refusal-spec = tie.close (tie.spec number-requires cast-put-no put-no-requires same-length returns)

@@ -44,6 +44,12 @@ cast-put-ok-2 c = search needs
 put-ok-requires-2 : tie.Need-put-ok-requires-2
 put-ok-requires-2 c κs = search needs
 
+read-keyed-requires : tie.Need-read-keyed-requires
+read-keyed-requires c κs = search needs
+
+put-keyed-requires : tie.Need-put-keyed-requires
+put-keyed-requires c κs = search needs
+
 slice-aggregate-add : tie.Need-slice-aggregate-add
 slice-aggregate-add c = search needs
 
@@ -72,7 +78,10 @@ same-length-4 c = search needs
 
 returns-3 : tie.Need-returns-3
 unfolding operationLine operationBuffer
-returns-3 c = rw (c .before .before .before .before .before .before .before .match .keys3) (c .before .before .before .before .put-decoding .ensures)
+returns-3 c =
+    let p = c .before .before .before .before in
+    let e = p .put-decoding .ensures in
+    rw (p .before .before .before .match .keys3) ((e .0 .0, omega (arith, e .0 .1)), e .1)
 
 same-length-5 : tie.Need-same-length-5
 same-length-5 c = search needs
@@ -82,7 +91,10 @@ same-length-6 c = search needs
 
 returns-4 : tie.Need-returns-4
 unfolding operationLine operationBuffer
-returns-4 c = rw (c .before .before .before .before .before .before .before .match .keys4) (c .before .before .before .before .put-settling .ensures)
+returns-4 c =
+    let p = c .before .before .before .before in
+    let e = p .put-settling .ensures in
+    rw (p .before .before .before .match .keys4) ((e .0 .0, omega (arith, e .0 .1)), e .1)
 
 same-length-7 : tie.Need-same-length-7
 same-length-7 c = search needs
@@ -104,10 +116,20 @@ same-length-9 c = search needs
 returns-7 : tie.Need-returns-7
 unfolding operationLine operationBuffer
 returns-7 c =
+    let m = c .before .before .before .before .before .match .keys7 in
+    let r = c .before .before .before .read-keyed .ensures in
+    ((rw (m, ← r .1 .0, ← r .0) (c .before .before .put-keyed .ensures .0), omega (arith, c .before .before .put-keyed .ensures .1)), rw m)
+
+same-length-10 : tie.Need-same-length-10
+same-length-10 c = search needs
+
+returns-8 : tie.Need-returns-8
+unfolding operationLine operationBuffer
+returns-8 c =
     let m = c .before .before .before .before .before .match .rest in
-    let d = ne-eqb _ 68 (m .0 .0 .0 .1) in
-    let s = ne-eqb _ 83 (m .0 .0 .1) in (
-      (rw (ne-eqb _ 82 (m .0 .0 .0 .0 .0 .1), ne-eqb _ 86 (m .0 .0 .0 .0 .1), d, s, ne-eqb _ 73 (m .0 .1), ne-eqb _ 70 (m .1)) (lines.first (c .before .before .add .ensures)), omega (arith, c .before .before .add .ensures .count)),
+    let d = ne-eqb _ 68 (m .0 .0 .0 .0 .1) in
+    let s = ne-eqb _ 83 (m .0 .0 .0 .1) in (
+      (rw (ne-eqb _ 82 (m .0 .0 .0 .0 .0 .0 .1), ne-eqb _ 86 (m .0 .0 .0 .0 .0 .1), d, s, ne-eqb _ 73 (m .0 .0 .1), ne-eqb _ 70 (m .0 .1), ne-eqb _ 75 (m .1)) (lines.first (c .before .before .add .ensures)), omega (arith, c .before .before .add .ensures .count)),
       rw (d, s),
     )
 
@@ -127,6 +149,8 @@ put-operation-spec =
     float-from-suffix-requires
     cast-put-ok-2
     put-ok-requires-2
+    read-keyed-requires
+    put-keyed-requires
     slice-aggregate-add
     add-requires
     same-length
@@ -144,4 +168,6 @@ put-operation-spec =
     same-length-8
     returns-6
     same-length-9
-    returns-7)
+    returns-7
+    same-length-10
+    returns-8)

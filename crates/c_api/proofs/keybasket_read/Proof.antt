@@ -1,7 +1,6 @@
 -- `c_api::keybasket_read` meets its contract.
 -- Assumes nothing.
-use mathlib.Core.Path.{refl, ap, _∙_}
-use Rattle.numbers.specs.Numbers.{readingNumbers}
+use mathlib.Core.Path.{refl}
 use borrow.Author.Needs.{needs}
 use Rattle.c_api.proofs.keybasket_read.Statement.{statement}
 use Rattle.c_api.proofs.keybasket_read.Tie as tie
@@ -13,7 +12,9 @@ reading-numbers-requires : tie.Need-reading-numbers-requires
 reading-numbers-requires c κs = search needs
 
 returns : tie.Need-returns
-returns c = (c .reading-numbers .ensures ∙ ap readingNumbers (c .before .read .ensures .0), refl)
+returns c =
+    let r = c .before .read .ensures in
+    (rw (c .reading-numbers .ensures, r .0, r .1 .0), refl)
 
 pub keybasket-read-spec : {M : Type 1} → statement M
 keybasket-read-spec = tie.close (tie.spec read-requires reading-numbers-requires returns)

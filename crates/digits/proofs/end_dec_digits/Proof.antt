@@ -3,20 +3,23 @@
 use Prim.Native.Nat.{_≤_, _+_, _-_}
 use mathlib.Core.Path.{_≡_, sym, _∙_}
 use native.Mathlib.Omega.{arith}
-use lib.ListN.{length, drop}
+use lib.ListN.{length, take, drop, length-take}
 use borrow.Author.Needs.{needs}
 use Rattle.scan.specs.Run.{run}
 use Rattle.scan.proofs.Runs.{run-part}
+use Rattle.scan.proofs.Counts.{count-le, tally, tally-part}
 use Rattle.parse.specs.Sets.{digit}
+use Rattle.parse.specs.Digits.{isDigit, digitCount}
 use Rattle.digits.proofs.end_dec_digits.Statement.{statement}
 use Rattle.digits.proofs.end_dec_digits.Tie as tie
 
--- the run of the whole is what is passed and the run of the rest
+-- the run of the whole is what is passed and the run of the rest; so is its count
 abbrev Inv-loop : tie.InvT-loop
-Inv-loop s i₀ i = (i ≤ length s) × (i + run (digit 10) (drop i s) ≡ run (digit 10) s)
+Inv-loop s digits₀ i₀ digits i =
+    (i ≤ length s) × (digits ≤ i) × (i + run (digit 10) (drop i s) ≡ run (digit 10) s) × (digits + tally (digit 10) (isDigit 10) (drop i s) ≡ tally (digit 10) (isDigit 10) s)
 
 abbrev μ-loop : tie.MeasureT-loop
-μ-loop s i₀ i = length s - i
+μ-loop s digits₀ i₀ digits i = length s - i
 
 loop-holds : tie.Need-loop-holds Inv-loop μ-loop
 loop-holds c = search needs
@@ -27,37 +30,61 @@ sub-loop c = search needs
 add-e : tie.Need-add-e Inv-loop μ-loop
 add-e c = search needs
 
-sub-count-not-digits : tie.Need-sub-count-not-digits Inv-loop μ-loop
-sub-count-not-digits c = search needs
+sub-count-block : tie.Need-sub-count-block Inv-loop μ-loop
+sub-count-block c = search needs
 
-part-count-not-digits-start : tie.Need-part-count-not-digits-start Inv-loop μ-loop
-part-count-not-digits-start c = search needs
+part-count-block-start : tie.Need-part-count-block-start Inv-loop μ-loop
+part-count-block-start c = search needs
 
-part-count-not-digits-end : tie.Need-part-count-not-digits-end Inv-loop μ-loop
-part-count-not-digits-end c = search needs
+part-count-block-end : tie.Need-part-count-block-end Inv-loop μ-loop
+part-count-block-end c = search needs
 
-count-not-digits-requires : tie.Need-count-not-digits-requires Inv-loop μ-loop
-count-not-digits-requires c κs = search needs
+count-block-requires : tie.Need-count-block-requires Inv-loop μ-loop
+count-block-requires c κs = search needs
 
-dec-end-requires : tie.Need-dec-end-requires Inv-loop μ-loop
-dec-end-requires c κs = search needs
+dec-digits-from-requires : tie.Need-dec-digits-from-requires Inv-loop μ-loop
+dec-digits-from-requires c κs = search needs
 
 returns : tie.Need-returns Inv-loop μ-loop
-returns c = c .dec-end .ensures ∙ c .before .before .before .before .before .loop .inv .1
+unfolding digitCount
+returns c =
+    let v = c .before .before .before .before .before .before .loop .inv in
+    let r = c .dec-digits-from .ensures in
+    record { end = r .end ∙ v .2; count = r .count ∙ v .3 }
+
+cast-digits : tie.Need-cast-digits Inv-loop μ-loop
+cast-digits c = search needs
+
+add-digits : tie.Need-add-digits Inv-loop μ-loop
+add-digits c = search needs
 
 loop-less : tie.Need-loop-less Inv-loop μ-loop
 loop-less c = search needs
 
 loop-again : tie.Need-loop-again Inv-loop μ-loop
+unfolding digitCount
 loop-again c =
-    let b = c .before .before .before in
-    (search needs, sym (run-part _ _ _ _ (sym (c .before .count-not-digits .ensures) ∙ c .if1 .left) (omega arith) (omega arith)) ∙ b .before .loop .inv .1)
+    let n = c .before .before .before in
+    let b = n .before .before in
+    let v = b .before .loop .inv in
+    let clear = sym (n .count-block .ensures .0) ∙ c .before .if1 .left in
+    let s = b .before .before .before .args .s .now in
+    let i = b .before .loop .i in (
+      search needs,
+      omega (arith, n .count-block .ensures .1, count-le (isDigit 10) (take (i + 64 - i) (drop i s)), length-take (i + 64 - i) (drop i s), v .1),
+      sym (run-part _ _ _ _ clear (omega arith) (omega arith)) ∙ v .2,
+      rw (n .count-block .ensures .1) (tally-part _ _ s i (i + 64) _ clear (omega arith) (omega arith)) ∙ v .3,
+    )
 
-dec-end-requires-2 : tie.Need-dec-end-requires-2 Inv-loop μ-loop
-dec-end-requires-2 c κs = search needs
+dec-digits-from-requires-2 : tie.Need-dec-digits-from-requires-2 Inv-loop μ-loop
+dec-digits-from-requires-2 c κs = search needs
 
 returns-2 : tie.Need-returns-2 Inv-loop μ-loop
-returns-2 c = c .dec-end2 .ensures ∙ c .before .before .loop .inv .1
+unfolding digitCount
+returns-2 c =
+    let v = c .before .before .loop .inv in
+    let r = c .dec-digits-from2 .ensures in
+    record { end = r .end ∙ v .2; count = r .count ∙ v .3 }
 
 pub end-dec-digits-spec : {M : Type 1} → statement M
 end-dec-digits-spec =
@@ -68,13 +95,15 @@ end-dec-digits-spec =
     loop-holds
     sub-loop
     add-e
-    sub-count-not-digits
-    part-count-not-digits-start
-    part-count-not-digits-end
-    count-not-digits-requires
-    dec-end-requires
+    sub-count-block
+    part-count-block-start
+    part-count-block-end
+    count-block-requires
+    dec-digits-from-requires
     returns
+    cast-digits
+    add-digits
     loop-less
     loop-again
-    dec-end-requires-2
+    dec-digits-from-requires-2
     returns-2)

@@ -14,7 +14,7 @@ byte-at-requires c κs = search needs
 
 returns : tie.Need-returns
 unfolding startsFloat
-returns c = rw (← c .before .before .end-dec-digits .ensures, ← c .before .byte-at .ensures, eq-eqb _ _ (c .if1 .taken))
+returns c = rw (← c .before .before .end-dec-digits .ensures .end, ← c .before .byte-at .ensures, eq-eqb _ _ (c .if1 .taken))
 
 has-e-requires : tie.Need-has-e-requires
 has-e-requires c κs = search needs
@@ -23,7 +23,7 @@ returns-2 : tie.Need-returns-2
 unfolding startsFloat
 returns-2 c =
     let b = c .before .before in
-    rw (← b .before .end-dec-digits .ensures, ← b .byte-at .ensures, ne-eqb _ _ (c .before .if1 .left)) (c .has-e .ensures)
+    rw (← b .before .end-dec-digits .ensures .end, ← b .byte-at .ensures, ne-eqb _ _ (c .before .if1 .left)) (c .has-e .ensures)
 
 pub starts-float-spec : {M : Type 1} → statement M
 starts-float-spec =

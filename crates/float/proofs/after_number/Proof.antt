@@ -1,6 +1,6 @@
 -- `float::after_number` meets its contract.
 -- Assumes nothing.
-use mathlib.Core.Path.{_≡_, _∙_}
+use mathlib.Core.Path.{_≡_, refl, _∙_}
 use native.Mathlib.Omega.{arith}
 use lib.ListN.{drop}
 use borrow.Author.Tests.{ne-eqb}
@@ -22,7 +22,7 @@ returns : tie.Need-returns
 unfolding afterNumber
 returns c =
     let a = c .before .before .before .args in
-    rw (no-suffix (a .text .now) (a .lit .«end_number_part») (c .before .if1 .taken)) (c .not-integer .ensures)
+    (rw (no-suffix (a .text .now) (a .lit .«end_number_part») (c .before .if1 .taken)) (c .not-integer .ensures .0), c .not-integer .ensures .1)
 
 sub-check-suffix : tie.Need-sub-check-suffix
 sub-check-suffix c = search needs
@@ -53,13 +53,13 @@ returns-2 : tie.Need-returns-2
 unfolding afterNumber
 returns-2 c =
     let b = c .before in
-    rw (← fault (b .before .before), b .enum-told .given .1) (c .not-integer2 .ensures)
+    (rw (← fault (b .before .before), b .enum-told .given .1) (c .not-integer2 .ensures .0), c .not-integer2 .ensures .1)
 
 returns-3 : tie.Need-returns-3
 unfolding afterNumber
 returns-3 c =
     let k = c .before .checked .given .0 .0 in
-    rw (← fault (c .before .before .before), c .before .checked .given .1, ne-eqb (numberOf k) 0 (λ e. omega (arith, number-positive k)))
+    (rw (← fault (c .before .before .before), c .before .checked .given .1, ne-eqb (numberOf k) 0 (λ e. omega (arith, number-positive k))), refl)
 
 pub after-number-spec : {M : Type 1} → statement M
 after-number-spec =

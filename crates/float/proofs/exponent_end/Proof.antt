@@ -2,14 +2,15 @@
 -- Assumes nothing.
 use mathlib.Core.Path.{_≡_, sym, _∙_}
 use mathlib.Core.Bool.{true}
-use Prim.Native.Nat.{_+_, _≤_}
+use Prim.Native.Nat.{_+_}
 use native.Mathlib.Omega.{arith}
-use lib.ListN.{length}
 use borrow.Author.Tests.{not-true, not-false}
 use Rattle.parse.specs.Sets.{startsE}
 use Rattle.parse.proofs.Numbers.{e-inside}
 use Rattle.float.specs.Float.{digitsEnd, exponentEnd}
-use Rattle.float.proofs.Inside.{digits-found}
+use Rattle.float.specs.Counts.{PartScan}
+use Rattle.float.proofs.Ends.{sign-after}
+use Rattle.float.proofs.Counts.{part-scanned, part-missing, before-exponent}
 use borrow.Author.Needs.{needs}
 use Rattle.float.proofs.exponent_end.Statement.{statement}
 use Rattle.float.proofs.exponent_end.Tie as tie
@@ -19,7 +20,7 @@ has-e-requires c κs = search needs
 
 returns : tie.Need-returns
 unfolding exponentEnd
-returns c = (rw (sym (c .before .has-e .ensures) ∙ not-true _ (c .if1 .taken)), omega arith)
+returns c = rw (sym (c .before .has-e .ensures) ∙ not-true _ (c .if1 .taken)) (part-missing _ _ (c .before .before .before .pre))
 
 -- `e` or `E` stands there
 has : (c : tie.Else1) → startsE (c .before .before .before .args .text .now) (c .before .before .before .args .f) ≡ true
@@ -40,22 +41,26 @@ part-end-dec-digits-end c = search needs
 end-dec-digits-requires : tie.Need-end-dec-digits-requires
 end-dec-digits-requires c κs = search needs
 
--- its digits end inside the text
-end : (c : tie.After-end-dec-digits) →
-    let s = c .before .before .before .before .before .before .args .text .now in
+-- the digits after it and its sign
+scanned : (c : tie.After-end-dec-digits) →
+    let a = c .before .before .before .before .before .before .args in
     let from = c .before .before .sign-end .result in
-    let e = from + c .end-dec-digits .result in
-    (e ≡ digitsEnd s from) × (e ≤ length s)
-end c = digits-found _ _ _ (c .before .before .sign-end .ensures .1) (c .end-dec-digits .ensures)
+    let r = c .end-dec-digits .result in
+    PartScan (a .f) (digitsEnd (a .text .now) from) (a .text .now) (record { end = from + r .end; digits = r .digits })
+scanned c =
+    let b = c .before .before in
+    let a = b .before .before .before .before .args in
+    let e = b .sign-end .ensures in
+    part-scanned _ _ _ _ (omega (arith, e .0, sign-after (a .text .now) (a .f))) (e .1) (rw (e .0) (before-exponent _ _ (has (b .before)) (rw (← e .0) (e .1)))) (c .end-dec-digits .ensures)
 
-add-result : tie.Need-add-result
-add-result c = omega (arith, end c .1)
+add-t8 : tie.Need-add-t8
+add-t8 c = omega (arith, scanned (c .before) .inside)
 
 returns-2 : tie.Need-returns-2
 unfolding exponentEnd
 returns-2 c =
-    let b = c .before .before in
-    (rw (has (b .before), ← b .sign-end .ensures .0) (end c .0), end c .1)
+    let b = c .before .before .before in
+    rw (has (b .before), ← b .sign-end .ensures .0) (scanned (c .before))
 
 pub exponent-end-spec : {M : Type 1} → statement M
 exponent-end-spec =
@@ -68,5 +73,5 @@ exponent-end-spec =
     part-end-dec-digits-start
     part-end-dec-digits-end
     end-dec-digits-requires
-    add-result
+    add-t8
     returns-2)

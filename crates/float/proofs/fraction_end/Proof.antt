@@ -1,13 +1,14 @@
 -- `float::fraction_end` meets its contract.
 -- Assumes nothing.
 use mathlib.Core.Path.{_≡_, sym, _∙_}
-use Prim.Native.Nat.{_+_, _≤_, _<_}
+use Prim.Native.Nat.{_+_, _<_}
 use native.Mathlib.Omega.{arith}
 use lib.ListN.{length}
 use borrow.Author.Tests.{eq-eqb, ne-eqb}
 use Rattle.scan.proofs.Bytes.{byte-inside}
 use Rattle.float.specs.Float.{digitsEnd, fractionEnd}
-use Rattle.float.proofs.Inside.{digits-found}
+use Rattle.float.specs.Counts.{PartScan}
+use Rattle.float.proofs.Counts as counts
 use borrow.Author.Needs.{needs}
 use Rattle.float.proofs.fraction_end.Statement.{statement}
 use Rattle.float.proofs.fraction_end.Tie as tie
@@ -17,7 +18,7 @@ byte-at-requires c κs = search needs
 
 returns : tie.Need-returns
 unfolding fractionEnd
-returns c = (rw (← c .before .byte-at .ensures, ne-eqb _ _ (c .if1 .taken)), omega arith)
+returns c = rw (← c .before .byte-at .ensures, ne-eqb _ _ (c .if1 .taken)) (counts.part-missing _ _ (c .before .before .before .pre))
 
 add-from : tie.Need-add-from
 add-from c = search needs
@@ -38,21 +39,24 @@ part-end-dec-digits-end c = search needs
 end-dec-digits-requires : tie.Need-end-dec-digits-requires
 end-dec-digits-requires c κs = search needs
 
--- its digits end inside the text
-end : (c : tie.After-end-dec-digits) →
+-- the digits after it
+scanned : (c : tie.After-end-dec-digits) →
     let a = c .before .before .before .before .before .args in
-    let e = a .i + 1 + c .end-dec-digits .result in
-    (e ≡ digitsEnd (a .text .now) (a .i + 1)) × (e ≤ length (a .text .now))
-end c = digits-found _ _ _ (omega (arith, period (c .before .before))) (c .end-dec-digits .ensures)
+    let r = c .end-dec-digits .result in
+    PartScan (a .i) (digitsEnd (a .text .now) (a .i + 1)) (a .text .now) (record { end = a .i + 1 + r .end; digits = r .digits })
+scanned c =
+    let b = c .before .before in
+    let h = period b in
+    counts.part-scanned _ _ _ _ (omega arith) (omega (arith, h)) (counts.period _ _ h (sym (b .before .byte-at .ensures) ∙ b .if1 .left)) (c .end-dec-digits .ensures)
 
-add-result : tie.Need-add-result
-add-result c = omega (arith, end c .1)
+add-t8 : tie.Need-add-t8
+add-t8 c = omega (arith, scanned (c .before) .inside)
 
 returns-2 : tie.Need-returns-2
 unfolding fractionEnd
 returns-2 c =
-    let b = c .before .before in
-    (rw (← b .before .byte-at .ensures, eq-eqb _ _ (b .if1 .left)) (end c .0), end c .1)
+    let b = c .before .before .before in
+    rw (← b .before .byte-at .ensures, eq-eqb _ _ (b .if1 .left)) (scanned (c .before))
 
 pub fraction-end-spec : {M : Type 1} → statement M
 fraction-end-spec =
@@ -65,5 +69,5 @@ fraction-end-spec =
     part-end-dec-digits-start
     part-end-dec-digits-end
     end-dec-digits-requires
-    add-result
+    add-t8
     returns-2)

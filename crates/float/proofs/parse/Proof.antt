@@ -1,7 +1,9 @@
 -- `float::parse` meets its contract.
 -- Assumes nothing.
 use mathlib.Core.Path.{ap, sym, subst, _∙_}
+use Rattle.digits.specs.Counts.{digitCounts}
 use Rattle.float.specs.Float.{parsedOf, IsRefused}
+use Rattle.float.specs.Counts.{parsedCounts}
 use borrow.Author.Needs.{needs}
 use Rattle.float.proofs.parse.Statement.{statement}
 use Rattle.float.proofs.parse.Tie as tie
@@ -19,10 +21,17 @@ refusal-requires : tie.Need-refusal-requires
 refusal-requires c κs = subst IsRefused (sym (c .enum-told .given .1)) tt
 
 returns : tie.Need-returns
-returns c = c .refusal .ensures ∙ c .before .before .before .parse-lit .ensures
+returns c =
+    let p = c .before .before .before .parse-lit .ensures in (
+      c .refusal .ensures .0 ∙ p .0,
+      c .refusal .ensures .1 ∙ ap parsedCounts (sym (c .before .enum-told .given .1)) ∙ p .1 ∙ ap (digitCounts _) (p .0),
+    )
 
 returns-2 : tie.Need-returns-2
-returns-2 c = ap parsedOf (sym (c .before .parsed .given .1)) ∙ c .before .before .before .parse-lit .ensures
+returns-2 c =
+    let p = c .before .before .before .parse-lit .ensures in
+    let known = sym (c .before .parsed .given .1) in
+    (ap parsedOf known ∙ p .0, ap parsedCounts known ∙ p .1 ∙ ap (digitCounts _) (p .0))
 
 pub parse-spec : {M : Type 1} → statement M
 parse-spec =

@@ -1,7 +1,8 @@
 -- `float::parse_lit` meets its contract.
 -- Assumes nothing.
-use mathlib.Core.Path.{_≡_, sym, _∙_}
+use mathlib.Core.Path.{_≡_, refl, sym, _∙_}
 use mathlib.Core.Bool.{cond}
+use native.Mathlib.Nat.{sub-zero}
 use Rattle.err.specs.Outcome.{refused, between}
 use Rattle.scan.specs.Run.{run}
 use Rattle.scan.proofs.Runs.{run-le}
@@ -22,7 +23,7 @@ enum-told : tie.Need-enum-told
 enum-told c = search needs
 
 returns : tie.Need-returns
-returns c = read-nothing _ (sym (c .before .before .get .ensures) ∙ c .enum-told .given .1)
+returns c = (read-nothing _ (sym (c .before .before .get .ensures) ∙ c .enum-told .given .1), refl)
 
 is-decimal-requires : tie.Need-is-decimal-requires
 is-decimal-requires c κs = search needs
@@ -31,7 +32,13 @@ end-dec-digits-requires : tie.Need-end-dec-digits-requires
 end-dec-digits-requires c κs = search needs
 
 after-integer-requires : tie.Need-after-integer-requires
-after-integer-requires c κs = rw (c .end-dec-digits .ensures) (run-le (digit 10) (c .before .before .before .before .before .before .before .before .args .text .now))
+after-integer-requires c κs =
+    let e = c .end-dec-digits .ensures in
+    record {
+      end = refl;
+      inside = rw (e .end) (run-le (digit 10) (c .before .before .before .before .before .before .before .before .args .text .now));
+      count = e .count ∙ rw (← e .end, sub-zero);
+    }
 
 -- the first byte decides
 by-byte : (c : tie.After-is-decimal) →
@@ -44,10 +51,10 @@ by-byte c =
 returns-2 : tie.Need-returns-2
 returns-2 c =
     let b = c .before .before in
-    rw (by-byte (b .before), b .if1 .taken, ← c .before .end-dec-digits .ensures) (c .after-integer .ensures)
+    (rw (by-byte (b .before), b .if1 .taken, ← c .before .end-dec-digits .ensures .end) (c .after-integer .ensures .0), c .after-integer .ensures .1)
 
 returns-3 : tie.Need-returns-3
-returns-3 c = rw (by-byte (c .before), c .if1 .left)
+returns-3 c = (rw (by-byte (c .before), c .if1 .left), refl)
 
 pub parse-lit-spec : {M : Type 1} → statement M
 parse-lit-spec =

@@ -10,7 +10,7 @@ use lib.Seq.{take-all}
 use Rattle.buffer.specs.Buffer.{Wrote}
 use Rattle.buffer.proofs.Laws as laws
 use Rattle.form_decimal.specs.Digits.{digitsOf}
-use Rattle.form_decimal.specs.Scaled.{part}
+use Rattle.scan.specs.Part.{part}
 use Rattle.form_decimal.proofs.Digits.{digits-front, digits-to}
 use Rattle.form_float.proofs.put_digits.Statement.{statement}
 use Rattle.form_float.proofs.put_digits.Tie as tie

@@ -5,7 +5,7 @@ use Prim.Native.Nat.{_+_, _≤_}
 use native.Mathlib.Omega.{arith}
 use lib.ListN.{length, length-append}
 use Rattle.form_decimal.specs.Digits.{digitsOf}
-use Rattle.form_decimal.specs.Scaled.{part}
+use Rattle.scan.specs.Part.{part}
 use Rattle.buffer.proofs.Laws as laws
 use Rattle.form_float.specs.Floats.{powerForm}
 use Rattle.form_float.proofs.put_scaled.Statement.{statement}

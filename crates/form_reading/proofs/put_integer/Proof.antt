@@ -5,7 +5,7 @@ use mathlib.Core.Path.{_≡_, sym, _∙_}
 use Rattle.err.specs.Reading.{baseOf}
 use Rattle.scan.proofs.Parts.{part-to-end}
 use Rattle.integer_value.specs.Value.{number}
-use Rattle.form_decimal.specs.Scaled.{part}
+use Rattle.scan.specs.Part.{part}
 use Rattle.form_reading.proofs.Readings.{integer-ends}
 use Rattle.form_reading.proofs.Lengths.{no-len, same-number, is-over}
 use Rattle.form_reading.proofs.put_integer.Statement.{statement}

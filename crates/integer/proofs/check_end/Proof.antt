@@ -1,6 +1,6 @@
 -- `integer::check_end` meets its contract.
 -- Assumes nothing.
-use mathlib.Core.Path.{_≡_, ap, sym, _∙_}
+use mathlib.Core.Path.{_≡_, refl, ap, sym, _∙_}
 use lib.ListN.{getD, drop}
 use Rattle.err.specs.Numbers.{numberOf}
 use Rattle.err.proofs.Positive.{number-positive}
@@ -15,7 +15,7 @@ use Rattle.integer.proofs.check_end.Statement.{statement}
 use Rattle.integer.proofs.check_end.Tie as tie
 
 returns : tie.Need-returns
-returns c = after-good _ _ _ (sym (no-suffix _ _ (c .if1 .taken)))
+returns c = (after-good _ _ _ (sym (no-suffix _ _ (c .if1 .taken))), refl)
 
 sub-check-suffix : tie.Need-sub-check-suffix
 sub-check-suffix c = search needs
@@ -42,7 +42,7 @@ fault : (c : tie.After-check-suffix) →
 fault c = c .check-suffix .ensures ∙ rw part-to-end
 
 returns-2 : tie.Need-returns-2
-returns-2 c = after-good _ _ _ (ap checkedOf (sym (c .enum-told .given .1)) ∙ fault (c .before .before))
+returns-2 c = (after-good _ _ _ (ap checkedOf (sym (c .enum-told .given .1)) ∙ fault (c .before .before)), refl)
 
 byte-at-requires : tie.Need-byte-at-requires
 byte-at-requires c κs = search needs
@@ -66,12 +66,12 @@ digit-at c = c .is-decimal .ensures ∙ ap decDigit (c .before .byte-at .ensures
 returns-3 : tie.Need-returns-3
 returns-3 c =
     let b = c .before .before .before .before in
-    after-digit _ _ _ _ (bad b) (number-positive (b .checked .given .0 .0)) (sym (digit-at (c .before)) ∙ c .if2 .taken)
+    (after-digit _ _ _ _ (bad b) (number-positive (b .checked .given .0 .0)) (sym (digit-at (c .before)) ∙ c .if2 .taken), refl)
 
 returns-4 : tie.Need-returns-4
 returns-4 c =
     let b = c .before .before .before .before in
-    after-fault _ _ _ _ (bad b) (number-positive (b .checked .given .0 .0)) (sym (digit-at (c .before)) ∙ c .if2 .left)
+    (after-fault _ _ _ _ (bad b) (number-positive (b .checked .given .0 .0)) (sym (digit-at (c .before)) ∙ c .if2 .left), refl)
 
 pub check-end-spec : {M : Type 1} → statement M
 check-end-spec =

@@ -1,7 +1,7 @@
 -- `integer::parse_lit` meets its contract.
 -- Assumes nothing.
 use Prim.Native.Nat.{_<_}
-use mathlib.Core.Path.{_≡_, ap, sym, _∙_}
+use mathlib.Core.Path.{_≡_, refl, ap, sym, _∙_}
 use lib.ListN.{length, getD}
 use Rattle.parse.specs.Sets.{decDigit}
 use Rattle.integer.proofs.Read.{read-none, first-byte, read-digit, read-other}
@@ -19,7 +19,7 @@ enum-told : tie.Need-enum-told
 enum-told c = search needs
 
 returns : tie.Need-returns
-returns c = read-none _ (sym (c .before .before .get .ensures) ∙ c .enum-told .given .1)
+returns c = (read-none _ (sym (c .before .before .get .ensures) ∙ c .enum-told .given .1), refl)
 
 is-decimal-requires : tie.Need-is-decimal-requires
 is-decimal-requires c κs = search needs
@@ -37,10 +37,10 @@ known c =
     (first .0, c .is-decimal .ensures ∙ ap decDigit (first .1))
 
 returns-2 : tie.Need-returns-2
-returns-2 c = c .parse-impl .ensures ∙ read-digit _ (sym (known (c .before .before) .1) ∙ c .before .if1 .taken)
+returns-2 c = (c .parse-impl .ensures .0 ∙ read-digit _ (sym (known (c .before .before) .1) ∙ c .before .if1 .taken), c .parse-impl .ensures .1)
 
 returns-3 : tie.Need-returns-3
-returns-3 c = read-other _ (known (c .before) .0) (sym (known (c .before) .1) ∙ c .if1 .left)
+returns-3 c = (read-other _ (known (c .before) .0) (sym (known (c .before) .1) ∙ c .if1 .left), refl)
 
 pub parse-lit-spec : {M : Type 1} → statement M
 parse-lit-spec =

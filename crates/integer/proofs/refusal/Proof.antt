@@ -1,6 +1,6 @@
 -- `integer::refusal` meets its contract.
 -- Assumes nothing.
-use mathlib.Core.Path.{sym, ap, subst}
+use mathlib.Core.Path.{refl, sym, ap, subst}
 use Rattle.integer.specs.Integer.{parsedOf, IsRefused}
 use borrow.Author.Needs.{needs}
 use Rattle.integer.proofs.refusal.Statement.{statement}
@@ -19,7 +19,7 @@ returns : tie.Need-returns
 returns c = absurd (subst IsRefused (c .before .enum-told .given .1) (c .before .before .before .pre))
 
 returns-2 : tie.Need-returns-2
-returns-2 c = sym (ap parsedOf (c .before .parsed .given .1))
+returns-2 c = (sym (ap parsedOf (c .before .parsed .given .1)), refl)
 
 pub refusal-spec : {M : Type 1} → statement M
 refusal-spec =

@@ -4,6 +4,7 @@ use mathlib.Core.Path.{_≡_}
 use mathlib.Core.Logic.{inl, inr, ⊎-elim}
 use borrow.Author.Tests.{ne-eqb}
 use Rattle.literal.specs.Readings.{entryRead, quoteIn}
+use Rattle.literal.proofs.Counted.{refused-counts, bool-counts, quote-counts, string-counts}
 use Rattle.literal.proofs.Dispatch.{byEntry, chosen-read}
 use borrow.Author.Needs.{needs}
 use Rattle.literal.proofs.entry.Statement.{statement}
@@ -44,7 +45,7 @@ chosen c = rw (c .chosen .ensures) (chosen-read _ _ (c .before .before .pre .0))
 
 returns : tie.Need-returns
 unfolding byEntry
-returns c = rw (chosen (c .before .before), c .before .match .keys1) (c .parse .ensures)
+returns c = rw (chosen (c .before .before), c .before .match .keys1) (c .parse .ensures, bool-counts (c .parse .result) _ (c .parse .ensures))
 
 returns-2 : tie.Need-returns-2
 unfolding byEntry
@@ -58,22 +59,24 @@ returns-4 : tie.Need-returns-4
 unfolding byEntry quoteIn
 returns-4 c =
     let q = c .before .quote-of .ensures in
+    let r = c .parse4 .ensures in
+    let n = quote-counts (c .before .quote-of .result) (c .parse4 .result) (c .before .before .before .before .before .args .text .now) r in
     rw (chosen (c .before .before .before))
     (⊎-elim
-    (λ k. rw k (rw (q, k) at (c .parse4 .ensures)))
-    (λ k. rw k (rw (q, k) at (c .parse4 .ensures)))
+    (λ k. rw k (rw (q, k) at r, rw (q, k) at n))
+    (λ k. rw k (rw (q, k) at r, rw (q, k) at n))
     (c .before .before .match .keys4))
 
 returns-5 : tie.Need-returns-5
 unfolding byEntry
-returns-5 c = rw (chosen (c .before .before), c .before .match .keys5) (c .perr-nowhere .ensures)
+returns-5 c = rw (chosen (c .before .before), c .before .match .keys5) (c .perr-nowhere .ensures, refused-counts (c .perr-nowhere .result) (c .perr-nowhere .ensures))
 
 returns-6 : tie.Need-returns-6
 unfolding byEntry
 returns-6 c =
     let m = c .before .before .match .rest in
     rw (chosen (c .before .before .before), ne-eqb _ _ (m .0 .0 .0 .0 .1), ne-eqb _ _ (m .0 .0 .0 .1), ne-eqb _ _ (m .0 .0 .1), ne-eqb _ _ (λ e. m .0 .1 (inl e)), ne-eqb _ _ (λ e. m .0 .1 (inr e)), ne-eqb _ _ (m .1), ← c .before .kind-of .ensures)
-    (c .parse5 .ensures)
+    (c .parse5 .ensures, string-counts _ (c .parse5 .result) _ (c .parse5 .ensures))
 
 pub entry-spec : {M : Type 1} → statement M
 entry-spec =

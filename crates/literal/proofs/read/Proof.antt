@@ -8,6 +8,7 @@ use Rattle.err.proofs.Positive.{number-positive}
 use Rattle.err.specs.Checked.{checkedOf}
 use Rattle.text_check.proofs.Checks.{fault-passed}
 use Rattle.literal.specs.Readings.{readAt}
+use Rattle.literal.proofs.Counted.{refused-counts}
 use borrow.Author.Needs.{needs}
 use Rattle.literal.proofs.read.Statement.{statement}
 use Rattle.literal.proofs.read.Tie as tie
@@ -17,7 +18,10 @@ perr-nowhere-requires c κs = search needs
 
 returns : tie.Need-returns
 unfolding readAt
-returns c = (rw (lt-leb _ _ (c .before .if1 .taken)) (c .perr-nowhere .ensures), refl)
+returns c =
+    let r = c .perr-nowhere .ensures in
+    let bad = lt-leb _ _ (c .before .if1 .taken) in
+    (rw bad r, (rw bad (refused-counts (c .perr-nowhere .result) r), refl))
 
 check-text-requires : tie.Need-check-text-requires
 check-text-requires c κs = search needs
@@ -37,7 +41,9 @@ returns-2 : tie.Need-returns-2
 unfolding readAt
 returns-2 c =
     let k = c .before .before .before in
-    (rw (le-leb _ _ (k .before .if1 .left), sym (k .check-text .ensures) ∙ ap checkedOf (c .before .enum-told .given .1)) (c .entry .ensures), refl)
+    let good = le-leb _ _ (k .before .if1 .left) in
+    let passed = sym (k .check-text .ensures) ∙ ap checkedOf (c .before .enum-told .given .1) in
+    (rw (good, passed) (c .entry .ensures .0), (rw (good, passed) (c .entry .ensures .1), refl))
 
 perr-nowhere-requires-2 : tie.Need-perr-nowhere-requires-2
 perr-nowhere-requires-2 c κs = search needs
@@ -48,7 +54,11 @@ returns-3 c =
     let d = c .before .before in
     let k = d .before .before in
     let n = d .checked .given .0 .0 in
-    (rw (le-leb _ _ (k .before .if1 .left), sym (k .check-text .ensures) ∙ ap checkedOf (d .checked .given .1), ne-eqb (numberOf n) 0 (λ z. omega (arith, number-positive n))) (c .perr-nowhere2 .ensures), refl)
+    let r = c .perr-nowhere2 .ensures in
+    let good = le-leb _ _ (k .before .if1 .left) in
+    let fault = sym (k .check-text .ensures) ∙ ap checkedOf (d .checked .given .1) in
+    let bad = ne-eqb (numberOf n) 0 (λ z. omega (arith, number-positive n)) in
+    (rw (good, fault, bad) r, (rw (good, fault, bad) (refused-counts (c .perr-nowhere2 .result) r), refl))
 
 pub read-spec : {M : Type 1} → statement M
 read-spec =

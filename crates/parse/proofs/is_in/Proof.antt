@@ -5,9 +5,6 @@ use borrow.Author.Needs.{needs}
 use Rattle.parse.proofs.is_in.Statement.{statement}
 use Rattle.parse.proofs.is_in.Tie as tie
 
-enum-known-set : tie.Need-enum-known-set
-enum-known-set c = search needs
-
 enum-told : tie.Need-enum-told
 enum-told c = search needs
 
@@ -15,21 +12,15 @@ enum-told-2 : tie.Need-enum-told-2
 enum-told-2 c = search needs
 
 returns : tie.Need-returns
-returns c = rw (c .before .before .set .given .1, eq-eqb _ _ (c .if1 .taken))
+returns c = rw (c .before .enum-told .given .1, eq-eqb _ _ (c .if1 .taken))
 
 returns-2 : tie.Need-returns-2
-returns-2 c = rw (c .before .before .set .given .1, ne-eqb _ _ (c .if1 .left))
+returns-2 c = rw (c .before .enum-told .given .1, ne-eqb _ _ (c .if1 .left))
 
 returns-3 : tie.Need-returns-3
-returns-3 c = rw (c .before .enum-told .given .1, eq-eqb _ _ (c .if2 .taken))
-
-returns-4 : tie.Need-returns-4
-returns-4 c = rw (c .before .enum-told .given .1, ne-eqb _ _ (c .if2 .left))
-
-returns-5 : tie.Need-returns-5
-returns-5 c = rw (c .enum-told2 .given .1)
+returns-3 c = rw (c .enum-told2 .given .1)
 
 pub is-in-spec : {M : Type 1} → statement M
 is-in-spec =
     tie.close
-    (tie.spec enum-known-set enum-told enum-told-2 returns returns-2 returns-3 returns-4 returns-5)
+    (tie.spec enum-told enum-told-2 returns returns-2 returns-3)

@@ -26,7 +26,7 @@ pub struct Refusal {
 }
 
 impl Refusal {
-    /// A refusal without a span, as all that 01 adds to litrs's own.
+    /// A refusal without a span, as all that 01 and 02 add to litrs's own.
     pub fn plain(number: u8) -> Self {
         Refusal { number, span: None }
     }

@@ -1,5 +1,6 @@
 //! Texts at every limit of document 01, the scope: lengths of texts and forms, hashes, digits in
-//! `\u`, scalars, the types' largest values, powers of ten, and UTF-8's own edges.
+//! `\u`, scalars, the types' largest values, powers of ten, and UTF-8's own edges. And at the limit of
+//! document 02, the change requests: the digits of a keyed number.
 
 use crate::records::{form_length, Records, DECODED_KINDS, VALUE_TYPES};
 use std::io;
@@ -16,6 +17,8 @@ pub fn write(records: &mut Records) -> io::Result<()> {
     integers(records)?;
     powers(records)?;
     exponents(records)?;
+    keyed_integers(records)?;
+    keyed_floats(records)?;
     utf8(records)
 }
 
@@ -311,9 +314,9 @@ fn spelled(records: &mut Records, digits: &str) -> io::Result<()> {
         records.settle_around(text.as_bytes())?;
         for suffix in ["u8", "x1", "o", "é"] {
             let text = format!("{text}{suffix}");
-            let code = VALUE_TYPES[(records.made() % 8) as usize];
+            let code = VALUE_TYPES[(records.turn() % 8) as usize];
             records.value(code, text.as_bytes())?;
-            records.settle(records.made() as usize % 32, text.as_bytes())?;
+            records.settle(records.turn() as usize % 32, text.as_bytes())?;
         }
     }
     Ok(())
@@ -371,6 +374,61 @@ fn exponents(records: &mut Records) -> io::Result<()> {
                 records.settle_around(text.as_bytes())?;
                 records.settle(40, format!("{text}f32").as_bytes())?;
             }
+        }
+    }
+    Ok(())
+}
+
+/// Counts of digits around the 40 that the keyed entry takes.
+const KEYED_COUNTS: std::ops::RangeInclusive<usize> = 36..=44;
+
+/// `count` digits: those of `set`, again and again.
+fn cycled(set: &str, count: usize) -> String {
+    set.chars().cycle().take(count).collect()
+}
+
+/// Each digit, and a `_` after it.
+fn split_by_underscores(digits: &str) -> String {
+    digits.chars().flat_map(|d| [d, '_']).collect()
+}
+
+/// Integers of 36 to 44 digits in every base, with what may follow them and what may not.
+fn keyed_integers(records: &mut Records) -> io::Result<()> {
+    const BASES: [(&str, &str); 4] =
+        [("", "9876543210"), ("0b", "10"), ("0o", "76543210"), ("0x", "fedcbaFEDCBA9876543210")];
+    const ENDS: [&str; 14] = ["", "_", "___", "u128", "f64", "a", "g1", "é1", "e", "E+", "-", "z-", "2", "8"];
+    for (prefix, set) in BASES {
+        for count in KEYED_COUNTS {
+            let digits = cycled(set, count);
+            for main in [split_by_underscores(&digits), "0".repeat(count), digits] {
+                for end in ENDS {
+                    records.calls(2, format!("{prefix}{main}{end}").as_bytes())?;
+                }
+            }
+        }
+    }
+    Ok(())
+}
+
+/// Floats of 36 to 44 digits in whole part and fraction together, by every split, with short and long
+/// exponents; a whole part alone has a period or none.
+fn keyed_floats(records: &mut Records) -> io::Result<()> {
+    const DECIMAL: &str = "1234567890";
+    let long = cycled("9876543210", 41);
+    let ends = ["", "f64", "e7", "_E-0_7", "e+", "z-", &format!("e{long}"), &format!("e-_{long}_f32")];
+    for count in KEYED_COUNTS {
+        for whole in 1..=count {
+            let (before, after) = (cycled(DECIMAL, whole), cycled(DECIMAL, count - whole));
+            let split = split_by_underscores(&after);
+            for end in ends {
+                records.few_calls(format!("{before}.{after}{end}").as_bytes())?;
+                if whole % 8 == 0 {
+                    records.few_calls(format!("{before}_.{split}{end}").as_bytes())?;
+                }
+            }
+        }
+        for end in ends {
+            records.calls(3, format!("{}{end}", cycled(DECIMAL, count)).as_bytes())?;
         }
     }
     Ok(())

@@ -30,7 +30,7 @@ pub fn write(records: &mut Records, rng: &mut Prng, count: u64) -> io::Result<()
     Ok(())
 }
 
-/// Entry 0, the kind's own entry or another, and one or two of the other calls.
+/// Entry 0 and the keyed entry, the kind's own entry or another, and one or two of the other calls.
 fn calls(records: &mut Records, rng: &mut Prng, kind: u8, text: &[u8]) -> io::Result<()> {
     records.read(0, text)?;
     if rng.chance(50) {
@@ -81,7 +81,9 @@ fn text(rng: &mut Prng, kind: u8) -> Vec<u8> {
     let size = if rng.below(2_000) == 0 { 1 + rng.below(6_000) } else { 1 + rng.below(7) };
     let mut t = match kind {
         1 => return boolean(rng),
+        2 if rng.chance(10) => keyed_integer(rng),
         2 => integer(rng, size),
+        3 if rng.chance(10) => keyed_float(rng),
         3 => float(rng, size),
         4 | 6 => single(rng, kind),
         _ if rng.chance(35) => raw(rng, kind, size),
@@ -128,13 +130,18 @@ fn digits(rng: &mut Prng, digits: &str, count: usize) -> String {
     s
 }
 
-fn integer(rng: &mut Prng, size: usize) -> String {
-    let (prefix, set, most) = match rng.below(5) {
+/// A base: its prefix, its digits, and how many of them a number of 64 bits and a little more has.
+fn base(rng: &mut Prng) -> (&'static str, &'static str, usize) {
+    match rng.below(5) {
         0 => ("0b", "01", 66),
         1 => ("0o", "01234567", 23),
         2 => ("0x", "0123456789abcdefABCDEF", 17),
         _ => ("", "0123456789", 21),
-    };
+    }
+}
+
+fn integer(rng: &mut Prng, size: usize) -> String {
+    let (prefix, set, most) = base(rng);
     let count = if size > 7 {
         size
     } else if rng.chance(30) {
@@ -158,8 +165,40 @@ fn integer(rng: &mut Prng, size: usize) -> String {
     s
 }
 
+/// About as many digits as the keyed entry takes.
+fn keyed_count(rng: &mut Prng) -> usize {
+    36 + rng.below(9)
+}
+
+fn keyed_integer(rng: &mut Prng) -> String {
+    let (prefix, set, _) = base(rng);
+    let count = keyed_count(rng);
+    let mut s = format!("{prefix}{}", digits(rng, set, count));
+    if rng.chance(5) {
+        s.push_str(rng.pick(&["2", "8", "9", "a", "F", "g"]));
+    }
+    s
+}
+
+const DECIMAL: &str = "00000123456789";
+
+/// A float whose digits of whole part and fraction are counted together. The exponent's are not.
+fn keyed_float(rng: &mut Prng) -> String {
+    let count = keyed_count(rng);
+    let whole = 1 + rng.below(count);
+    let mut s = digits(rng, DECIMAL, whole);
+    let period = whole < count || rng.chance(30);
+    if period {
+        s.push('.');
+        s.push_str(&digits(rng, DECIMAL, count - whole));
+    }
+    if !period || rng.chance(50) {
+        s.push_str(&signed_exponent(rng));
+    }
+    s
+}
+
 fn float(rng: &mut Prng, size: usize) -> String {
-    const DECIMAL: &str = "00000123456789";
     let count = 1 + rng.below(size + 2);
     let mut s = digits(rng, DECIMAL, count);
     if s.starts_with('_') || s.is_empty() {
@@ -172,11 +211,14 @@ fn float(rng: &mut Prng, size: usize) -> String {
         s.push_str(&digits(rng, DECIMAL, count));
     }
     if rng.chance(if period { 50 } else { 90 }) {
-        s.push_str(rng.pick(&["e", "E"]));
-        s.push_str(rng.pick(&["", "", "+", "-", "-"]));
-        s.push_str(&exponent(rng));
+        s.push_str(&signed_exponent(rng));
     }
     s
+}
+
+fn signed_exponent(rng: &mut Prng) -> String {
+    let (e, sign) = (rng.pick(&["e", "E"]), rng.pick(&["", "", "+", "-", "-"]));
+    format!("{e}{sign}{}", exponent(rng))
 }
 
 fn exponent(rng: &mut Prng) -> String {
@@ -189,7 +231,7 @@ fn exponent(rng: &mut Prng) -> String {
             digits(rng, "0123456789", count)
         }
         9 => {
-            let count = 10 + rng.below(30);
+            let count = 10 + rng.below(40);
             digits(rng, "0123456789", count)
         }
         10 => format!("_{}", rng.below(300)),

@@ -17,16 +17,23 @@ pub const DECODED_KINDS: [u8; 3] = [5, 7, 8];
 pub struct Records {
     out: BufWriter<Stdout>,
     made: u64,
+    keyed: u64,
 }
 
 impl Records {
     pub fn new() -> Self {
-        Records { out: BufWriter::with_capacity(1 << 16, io::stdout()), made: 0 }
+        Records { out: BufWriter::with_capacity(1 << 16, io::stdout()), made: 0, keyed: 0 }
     }
 
     /// How many records were written.
     pub fn made(&self) -> u64 {
         self.made
+    }
+
+    /// What decides by turns: how many records were written, those of the keyed entry left out, since
+    /// they come in pairs with those of entry 0.
+    pub fn turn(&self) -> u64 {
+        self.made - self.keyed
     }
 
     pub fn flush(&mut self) -> io::Result<()> {
@@ -42,8 +49,18 @@ impl Records {
         self.out.write_all(text)
     }
 
+    /// Reading by an entry code. After entry 0 comes the keyed entry, which reads as it does.
     pub fn read(&mut self, code: u8, text: &[u8]) -> io::Result<()> {
-        self.record(b'R', code, 0, text)
+        self.record(b'R', code, 0, text)?;
+        if code == 0 {
+            self.keyed(text)?;
+        }
+        Ok(())
+    }
+
+    fn keyed(&mut self, text: &[u8]) -> io::Result<()> {
+        self.keyed += 1;
+        self.record(b'K', 0, 0, text)
     }
 
     pub fn value(&mut self, code: u8, text: &[u8]) -> io::Result<()> {
@@ -86,7 +103,8 @@ impl Records {
         around(exact).try_for_each(|buffer| self.settle(buffer, text))
     }
 
-    /// Entry 0, the text's own entry, and every call that writes, with buffers around the length.
+    /// Entry 0, the keyed entry, the text's own entry, and every call that writes, with buffers around
+    /// the length.
     pub fn calls(&mut self, own: u8, text: &[u8]) -> io::Result<()> {
         self.read(0, text)?;
         self.read(own, text)?;
@@ -99,10 +117,10 @@ impl Records {
     /// As `calls`, with one lent buffer for each call: one short, exact and one long by turns.
     pub fn few_calls(&mut self, text: &[u8]) -> io::Result<()> {
         self.read(0, text)?;
-        let turn = (self.made % 3) as usize;
+        let turn = (self.turn() % 3) as usize;
         let Ok(reading) = answer::read(0, text) else {
             // A refused text is settled now and then: the refusal is the reading's.
-            return if self.made % 8 == 0 { self.settle(turn, text) } else { Ok(()) };
+            return if self.turn() % 8 == 0 { self.settle(turn, text) } else { Ok(()) };
         };
         if DECODED_KINDS.contains(&reading.kind) {
             let exact = decoded_length(reading.kind, text).unwrap_or(1);

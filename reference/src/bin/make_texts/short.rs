@@ -101,8 +101,8 @@ fn all_up_to_three(records: &mut Records) -> io::Result<()> {
         for &code in own_entries(text[0]) {
             records.read(code, text)?;
         }
-        if own_entries(text[0]).is_empty() && records.made() % 4 == 0 {
-            let other = 1 + (records.made() / 4 % 8) as u8;
+        if own_entries(text[0]).is_empty() && records.turn() % 4 == 0 {
+            let other = 1 + (records.turn() / 4 % 8) as u8;
             records.read(other, text)?;
         }
         Ok(())
@@ -127,7 +127,7 @@ fn framed(records: &mut Records) -> io::Result<()> {
             let text = format!("{before}{t}{behind}").into_bytes();
             records.few_calls(&text)?;
             for &code in own_entries(text[0]) {
-                if records.made() % 3 == 0 {
+                if records.turn() % 3 == 0 {
                     records.read(code, &text)?;
                 }
             }

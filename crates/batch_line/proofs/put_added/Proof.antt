@@ -1,0 +1,23 @@
+-- `batch_line::put_added` meets its contract.
+-- Assumes nothing.
+use borrow.Author.Needs.{needs}
+use Rattle.batch_line.proofs.put_added.Statement.{statement}
+use Rattle.batch_line.proofs.put_added.Tie as tie
+
+number-requires : tie.Need-number-requires
+number-requires c κs = search needs
+
+cast-put-no : tie.Need-cast-put-no
+cast-put-no c = search needs
+
+put-no-requires : tie.Need-put-no-requires
+put-no-requires c κs = search needs
+
+same-length : tie.Need-same-length
+same-length c = search needs
+
+returns : tie.Need-returns
+returns c = rw (← c .before .before .before .number .ensures) (c .before .before .put-no .ensures)
+
+pub put-added-spec : {M : Type 1} → statement M
+put-added-spec = tie.close (tie.spec number-requires cast-put-no put-no-requires same-length returns)
