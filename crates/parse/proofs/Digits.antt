@@ -24,7 +24,7 @@ no-digits base [] h a z = refl
 no-digits base (b ∷ s) h a z =
     ⊎-elim
     (λ e. let more = no-digits base s h (a .1) in rw e (omega (arith, more (omega arith))))
-    (λ l. let one : ltb (classOf b) base ≡ true = lt-ltb (classOf b) base l in absurd (omega (arith, rw one at z)))
+    (λ l. let one : isDigit base b ≡ true = lt-ltb (classOf b) base l in absurd (omega (arith, rw one at z)))
     (digit-cases base b (a .0))
 
 pub some-digits : (base : ℕ) (s : List ℕ) → base ≤ 16 → All (digit base) s → run (only 95) s ≡ length s → digitCount base s ≡ 0
@@ -34,7 +34,7 @@ some-digits base (b ∷ s) h a z =
     ⊎-elim
     (λ e.
     let low : classOf b ≡ 16 = rw e class-underscore in
-    let none : ltb (classOf b) base ≡ false = le-ltb (classOf b) base (omega (arith, low)) in
+    let none : isDigit base b ≡ false = le-ltb (classOf b) base (omega (arith, low)) in
     let rest : suc (run (only 95) s) ≡ suc (length s) = rw e at z in
     rw none (omega (arith, some-digits base s h (a .1) (omega (arith, rest)))))
     (λ l.

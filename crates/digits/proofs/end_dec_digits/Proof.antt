@@ -73,7 +73,7 @@ loop-again c =
       search needs,
       omega (arith, n .count-block .ensures .1, count-le (isDigit 10) (take (i + 64 - i) (drop i s)), length-take (i + 64 - i) (drop i s), v .1),
       sym (run-part _ _ _ _ clear (omega arith) (omega arith)) ∙ v .2,
-      rw (n .count-block .ensures .1) (tally-part _ _ s i (i + 64) _ clear (omega arith) (omega arith)) ∙ v .3,
+      omega (arith, n .count-block .ensures .1, tally-part (digit 10) (isDigit 10) s i (i + 64) (b .before .loop .digits) clear (omega arith) (omega arith), v .3),
     )
 
 dec-digits-from-requires-2 : tie.Need-dec-digits-from-requires-2 Inv-loop μ-loop

@@ -5,12 +5,14 @@ use mathlib.Core.Path.{_≡_, refl, sym, _∙_}
 use mathlib.Core.Bool.{true, false, cond, or-true}
 use mathlib.Core.Logic.{⊎-elim}
 use native.Mathlib.Omega.{arith}
+use lib.Dec.{ltb, eqb}
 use lib.ListN.{length, getD, drop}
 use borrow.Author.Tests.{lt-ltb, le-ltb, eq-eqb, ne-eqb}
 use borrow.Author.Needs.{needs}
 use Rattle.scan.specs.Run.{run}
 use Rattle.scan.proofs.Runs.{run-more, run-stop, run-end}
 use Rattle.scan.proofs.Counts.{tally, tally-more, tally-stop, tally-end}
+use Rattle.parse.specs.Class.{classOf}
 use Rattle.parse.specs.Sets.{digit}
 use Rattle.parse.specs.Digits.{isDigit, digitCount}
 use Rattle.parse.proofs.digit_run.Statement.{statement}
@@ -43,7 +45,14 @@ other : (c : tie.Then2 Inv-loop μ-loop) →
     let a = b .before .before .before .args in
     digit (a .base) (getD (a .s .now) (b .before .loop .i) 0) ≡ false
 unfolding digit
-other c = rw (← c .before .before .class-of .ensures, ne-eqb _ _ (c .if2 .taken), le-ltb _ _ (c .before .if1 .left))
+other c =
+    let b = c .before .before .before .before in
+    let a = b .before .before .before .args in
+    let class = classOf (getD (a .s .now) (b .before .loop .i) 0) in
+    let e = c .before .before .class-of .ensures in
+    let low : eqb class 16 ≡ false = ne-eqb class 16 (λ q. c .if2 .taken (e ∙ q)) in
+    let below : ltb class (a .base) ≡ false = le-ltb class (a .base) (omega (arith, e, c .before .if1 .left)) in
+    rw (low, below)
 
 returns : tie.Need-returns Inv-loop μ-loop
 unfolding digitCount
@@ -60,10 +69,16 @@ step : (c : tie.Joined1 Inv-loop μ-loop) →
     × (c .if1 .digits ≤ b .loop .digits + 1)
 unfolding isDigit digit
 step c =
+    let b = c .before .before .before .before in
+    let a = b .before .before .args in
+    let class = classOf (getD (a .s .now) (b .loop .i) 0) in
     let e = c .before .class-of .ensures in
     ⊎-elim
-    (λ w. (w .1 ∙ rw (← e, lt-ltb _ _ (w .0 .taken)), rw (← e, lt-ltb _ _ (w .0 .taken), or-true), omega (arith, w .1)))
-    (λ w. (w .2 ∙ rw (← e, le-ltb _ _ (w .0 .left)) (omega arith), rw (← e, eq-eqb _ _ (w .1 .left)), omega (arith, w .2)))
+    (λ w. let below : ltb class (a .base) ≡ true = lt-ltb class (a .base) (omega (arith, e, w .0 .taken)) in (w .1 ∙ rw below, rw (below, or-true), omega (arith, w .1)))
+    (λ w.
+    let above : ltb class (a .base) ≡ false = le-ltb class (a .base) (omega (arith, e, w .0 .left)) in
+    let low : eqb class 16 ≡ true = eq-eqb class 16 (sym e ∙ w .1 .left) in
+    (w .2 ∙ rw above (omega arith), rw low, omega (arith, w .2)))
     (c .if1 .came)
 
 add-i : tie.Need-add-i Inv-loop μ-loop
