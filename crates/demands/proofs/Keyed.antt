@@ -2,7 +2,7 @@
 -- Assumes nothing.
 use Prim.Native.Nat.{ℕ, _+_, _≤_, _<_}
 use mathlib.Core.Path.{_≡_, refl, sym, ap, subst, _∙_}
-use mathlib.Core.Bool.{Bool, true, false, cond}
+use mathlib.Core.Bool.{Bool, true, cond}
 use mathlib.Core.Logic.{_⊎_, inl, inr, _↔_}
 use mathlib.Core.List.{List, [], _∷_}
 use native.Mathlib.Omega.{arith}
@@ -11,7 +11,6 @@ use lib.ListN.{length, take, drop}
 use borrow.Author.Tests.{lt-ltb, ltb-true}
 use Rattle.err.specs.Outcome.{Place, none, IntegerValues, FloatValues, Values, truth, digits, ends, value, decoded, Outcome, refused, accepted}
 use Rattle.err.specs.Counts.{noCounts}
-use Rattle.scan.specs.Part.{part}
 use Rattle.scan.proofs.Cases.{cond-in, clash}
 use Rattle.scan.specs.Run.{run, All, Stops}
 use Rattle.scan.proofs.Runs.{run-all, run-stops}
@@ -33,7 +32,7 @@ use Rattle.demands.specs.Demand1.{Numbered}
 use Rattle.demands.specs.Demand2.{Gives}
 use Rattle.demands.specs.ByteClasses.{listed}
 use Rattle.demands.proofs.ByteClasses.{byte-classes}
-use Rattle.demands.specs.Keyed.{DigitCounts, ReadingCounts, EightNumbers, IntegerWith, FloatWith, TooManyDigits, AlikeButUnderscores, KeyedEntry, Keyed}
+use Rattle.demands.specs.Keyed.{DigitCounts, ReadingCounts, EightNumbers, TooManyDigits, AlikeButUnderscores, KeyedEntry, Keyed}
 use Rattle.demands.proofs.ReadCall.{Coded, coded}
 use Rattle.demands.proofs.SettleCall.{numbers}
 use Rattle.demands.proofs.Demand2.{demand-2-transcribed}

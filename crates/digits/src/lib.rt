@@ -3,7 +3,7 @@ use parse::DigitRun;
 ghost use mathlib.Core.Path.{_≡_};
 ghost use mathlib.Core.Bool.{cond};
 ghost use Prim.Native.Nat.{_+_, _≤_};
-ghost use lib.ListN.{length, drop};
+ghost use lib.ListN.{length};
 ghost use Rattle.scan.specs.Run.{countNot};
 ghost use Rattle.parse.specs.Sets.{digit};
 ghost use Rattle.parse.specs.Digits.{isDigit, digitCount, DigitScan};

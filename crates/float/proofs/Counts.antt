@@ -1,7 +1,7 @@
 -- How many digits the parts of a float have: period, `e` and sign are no digits.
 -- Assumes nothing.
 use mathlib.Core.Path.{_≡_, refl, ap, sym, _∙_}
-use mathlib.Core.Bool.{Bool, true, false, cond, _||_}
+use mathlib.Core.Bool.{true, false, _||_}
 use mathlib.Core.Logic.{⊎-elim}
 use mathlib.Core.List.{List}
 use Prim.Native.Nat.{ℕ, _+_, _-_, _≤_, _<_}
@@ -12,12 +12,11 @@ use lib.ListN.{length, getD, take, drop, length-take, length-drop}
 use borrow.Author.Tests.{eqb-true, eq-eqb, ne-eqb}
 use Rattle.err.specs.Outcome.{Outcome, ends}
 use Rattle.err.specs.Counts.{Counts, floatCounts, keptCounts}
-use Rattle.scan.specs.Run.{run, All}
-use Rattle.scan.specs.Sets.{only}
+use Rattle.scan.specs.Run.{All}
 use Rattle.scan.specs.Part.{part}
 use Rattle.scan.proofs.Cases.{cond-in}
 use Rattle.scan.proofs.Parts.{part-to-end}
-use Rattle.scan.proofs.Runs.{run-all, run-le}
+use Rattle.scan.proofs.Runs.{run-all}
 use Rattle.scan.proofs.Counts.{count-parts, count-none, count-one}
 use Rattle.parse.specs.Class.{classOf}
 use Rattle.parse.specs.Sets.{digit, startsE}

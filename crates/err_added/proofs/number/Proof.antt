@@ -1,6 +1,5 @@
 -- `err_added::number` meets its contract.
 -- Assumes nothing.
-use Prim.Native.Nat.{ℕ}
 use mathlib.Core.Path.{_≡_, refl}
 use Rattle.err_added.specs.Numbers.{addedNumber}
 use Rattle.err_added.specs.declared.AddedErrorKind.{AddedErrorKind}

@@ -2,11 +2,9 @@
 -- Assumes nothing.
 use Prim.Native.Nat.{_-_}
 use mathlib.Core.Path.{_≡_, refl, ap, sym, _∙_}
-use Rattle.err.specs.Outcome.{Outcome}
 use Rattle.err.specs.Counts.{integerCount}
-use Rattle.digits.specs.Counts.{digitCounts}
 use Rattle.integer.specs.declared.Parsed.the-variants as parsed
-use Rattle.integer.specs.Integer.{parsedOf, parsedCounts, afterSuffix, afterDigits, integerAt}
+use Rattle.integer.specs.Integer.{parsedOf, afterDigits, integerAt}
 use Rattle.integer.proofs.Suffixed.{after-good, after-refused, suffix-passed}
 use Rattle.integer.proofs.Read.{at-scan}
 use Rattle.integer.proofs.Scans.{lone, some}

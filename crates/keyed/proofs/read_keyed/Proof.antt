@@ -1,7 +1,6 @@
 -- `keyed::read_keyed` meets its contract.
 -- Assumes nothing.
 use mathlib.Core.Path.{_≡_, refl, sym, ap, _∙_}
-use Rattle.err.specs.Counts.{countsOf}
 use Rattle.digits.specs.Counts.{digitCounts}
 use Rattle.literal.specs.Readings.{readAt}
 use Rattle.keyed.specs.Keyed.{overlong, keyedAt}
