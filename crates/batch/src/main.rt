@@ -1,4 +1,6 @@
 // Takes a batch of records from standard input (docs/BATCH.md) and prints one line for each.
+#![tactic(auto)]
+
 ghost use Rattle.std.specs.Prelude.{◌≡◌, false, ◌+◌, ◌*◌, ◌≤◌, ◌<◌, length};
 ghost use Rattle.buffer.specs.Buffer.{over};
 ghost use Rattle.batch.specs.Record.{number_at, head_line, head_buffer, Recorded, Lent};

@@ -1,5 +1,7 @@
 // Lines of the batch format (docs/BATCH.md), made in a lent buffer. A `put_` function writes to its front, an `add_` function after its first `at` bytes; each
 // returns where what it wrote ends, and leaves the bytes after that as they were.
+#![tactic(auto)]
+
 ghost use Rattle.std.specs.Prelude.{◌≡◌, cond, ◌++◌, ◌+◌, ◌*◌, ◌≤◌, length, drop};
 ghost use Rattle.err.specs.Numbers.{number_of};
 ghost use Rattle.err.specs.Reading.{place_of, hashes_of, values_of_string, outcome_of};

@@ -1,5 +1,7 @@
 // The line that a record of the batch format comes to (docs/BATCH.md), and the line of the program `keybasket`. Lines are made here in a lent buffer; the
 // programs print them.
+#![tactic(auto)]
+
 ghost use Rattle.std.specs.Prelude.{◌≡◌, ◌+◌, ◌*◌, ◌≤◌, length, take, replicate};
 ghost use Rattle.err.specs.Numbers.{number_of};
 ghost use Rattle.err.specs.Reading.{place_of};

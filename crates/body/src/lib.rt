@@ -1,4 +1,6 @@
 // Quoted bodies: measured, and judged with the suffix after them.
+#![tactic(auto)]
+
 ghost use Rattle.std.specs.Prelude.{◌≡◌, ◌+◌, ◌-◌, ◌≤◌, ◌<◌, length, drop};
 ghost use Rattle.err.specs.Reading.{hashes_of};
 ghost use Rattle.utf8.specs.Cut.{last_len};
@@ -13,21 +15,21 @@ use escape::{Allowed, Escape, Unescaped};
 use parse::ClassSet;
 
 // Why a body ends: at its closing quote, or with a refusal whose span counts from there.
-#[derive(Drop)]
+#[derive(Clone, Copy)]
 pub enum Ending {
     Close,
     Bad(ParseErrorKind, Span),
 }
 
 // Some bytes that stand for a value, and how many, or the end.
-#[derive(Drop)]
+#[derive(Clone, Copy)]
 pub enum Step {
     Piece(Unescaped, usize),
     Stop(Ending),
 }
 
 // Where a body ends, how many bytes it stands for up to there, and why it ends.
-#[derive(Drop)]
+#[derive(Clone, Copy)]
 pub struct Measured {
     pub at: usize,
     pub len: usize,
@@ -35,7 +37,7 @@ pub struct Measured {
 }
 
 // A string, a byte string or a C string, or the refusal.
-#[derive(Drop)]
+#[derive(Clone, Copy)]
 pub enum Quoted {
     Lit(StringLit),
     Refused(ParseErrorKind, Span),

@@ -1,4 +1,6 @@
 // What a quoted body stands for, written to the front of a buffer.
+#![tactic(auto)]
+
 ghost use Rattle.std.specs.Prelude.{◌≤◌, ◌<◌, length};
 ghost use Rattle.buffer.specs.Buffer.{Wrote};
 ghost use Rattle.body.specs.Body.{body};

@@ -1,4 +1,6 @@
 // Bool literals.
+#![tactic(auto)]
+
 ghost use Rattle.std.specs.Prelude.{◌≡◌};
 ghost use Rattle.err.specs.Reading.{outcome_of};
 ghost use Rattle.boolean.specs.Bool.{bool_read};

@@ -1,4 +1,6 @@
 // Pieces written at the front of a lent buffer. Each writer returns the piece's length and leaves the bytes after it as they were.
+#![tactic(auto)]
+
 ghost use Rattle.std.specs.Prelude.{◌≡◌, ◌∷◌, [], ◌≤◌, ◌<◌, length};
 ghost use Rattle.buffer.specs.Buffer.{Wrote};
 ghost use Rattle.buffer.specs.Digits.{decimal, hex_digit, hex_digits};

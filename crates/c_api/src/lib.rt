@@ -1,4 +1,6 @@
 // The entries for C (include/keybasket.h): numbers and byte slices only. None has a `requires`: any code and any bytes may be handed in.
+#![tactic(auto)]
+
 ghost use Rattle.std.specs.Prelude.{◌≡◌, length};
 ghost use Rattle.string.specs.Decode.{decoded_of};
 ghost use Rattle.literal.specs.Readings.{read_at};

@@ -1,4 +1,6 @@
 // Char and byte literals: one character or byte between single quotes.
+#![tactic(auto)]
+
 ghost use Rattle.std.specs.Prelude.{◌≡◌, List, ℕ, ◌-◌, ◌≤◌, ◌<◌, length};
 ghost use Rattle.err.specs.Reading.{outcome_of};
 ghost use Rattle.character_quote.specs.Content.{inner_of};
@@ -11,7 +13,7 @@ use escape::{Escape, Unescaped};
 use scan::ByteSet;
 
 // The value and where the suffix starts, or why a text is no such literal.
-#[derive(Drop)]
+#[derive(Clone, Copy)]
 pub enum Single {
     Value(u32, usize),
     Refused(ParseErrorKind, Span),

@@ -1,4 +1,6 @@
 // In what char and byte literals differ, and what stands after their opening quote where it is no escape.
+#![tactic(auto)]
+
 ghost use Rattle.std.specs.Prelude.{◌≡◌, ◌<◌, length};
 ghost use Rattle.err.specs.Outcome as outcome;
 ghost use Rattle.err.specs.Numbers.{number_of};
@@ -11,7 +13,7 @@ use escape::Allowed;
 use utf8::Decoded;
 
 // Which of the two kinds.
-#[derive(Drop)]
+#[derive(Clone, Copy)]
 pub enum Quote {
     Char,
     Byte,
@@ -112,7 +114,7 @@ impl Quote {
 }
 
 // What stands between the quotes: its number and how many bytes it has, or the refusal.
-#[derive(Drop)]
+#[derive(Clone, Copy)]
 pub enum Inner {
     Value(u32, usize),
     Refused(ParseErrorKind, Span),

@@ -1,4 +1,6 @@
 // The scan of decimal digits.
+#![tactic(auto)]
+
 ghost use Rattle.std.specs.Prelude.{◌≡◌, cond, ◌+◌, ◌≤◌, length};
 ghost use Rattle.scan.specs.Run.{count_not};
 ghost use Rattle.parse.specs.Sets.{digit};
@@ -35,7 +37,7 @@ fn one_digit(b: u8) -> u8
 }
 
 // Of some bytes: how many are neither decimal digits nor `_`, and how many are decimal digits.
-#[derive(Drop)]
+#[derive(Clone, Copy)]
 pub struct Block {
     pub others: u8,
     pub digits: u8,

@@ -1,4 +1,6 @@
 // Which entry reads a text.
+#![tactic(auto)]
+
 ghost use Rattle.std.specs.Prelude.{◌≡◌};
 ghost use Rattle.dispatch.specs.Entries.{starts_float, number_entry, byte_entry, entry_for, chosen_entry};
 

@@ -1,4 +1,6 @@
 // Spans, error kinds, what a check finds, and readings: what every parser here returns.
+#![tactic(auto)]
+
 ghost use Rattle.std.specs.Prelude.{◌≡◌, length, ◌-◌};
 ghost use Rattle.err.specs.Numbers.{number_of};
 ghost use Rattle.err.specs.Outcome.{refused, none, between, shift, Ends};
@@ -8,14 +10,14 @@ ghost use Rattle.err.specs.Reading.{place_of, base_of, prefix_of, prefix_bytes, 
 pub const MAX_LEN: usize = 65536;
 
 // Where a refusal stands: nowhere, or from one offset to another, the second excluded.
-#[derive(Drop)]
+#[derive(Clone, Copy)]
 pub enum Span {
     Nowhere,
     Between(usize, usize),
 }
 
 // Why a text is refused: litrs's error kinds, and from BadCode on those that were added.
-#[derive(Drop)]
+#[derive(Clone, Copy)]
 pub enum ParseErrorKind {
     Empty,
     UnexpectedChar,
@@ -68,13 +70,13 @@ pub enum ParseErrorKind {
 }
 
 // What a check finds: nothing, or why the text is refused.
-#[derive(Drop)]
+#[derive(Clone, Copy)]
 pub enum Checked {
     Good,
     Bad(ParseErrorKind),
 }
 
-#[derive(Drop)]
+#[derive(Clone, Copy)]
 pub enum IntegerBase {
     Binary,
     Octal,
@@ -83,7 +85,7 @@ pub enum IntegerBase {
 }
 
 // A base's prefix: its bytes, zeros after them, and how many there are.
-#[derive(Drop)]
+#[derive(Clone, Copy)]
 pub struct Prefix {
     pub bytes: [u8; 2],
     pub len: usize,
@@ -130,14 +132,14 @@ impl IntegerBase {
 // The literals. A field of less than eight bytes stands last: a reading is copied in words, and a first word made of bytes makes every copy wait.
 
 // A bool: where its text ends, which is the start of its empty suffix, and its truth.
-#[derive(Drop)]
+#[derive(Clone, Copy)]
 pub struct BoolLit {
     pub end: usize,
     pub value: bool,
 }
 
 // An integer: both ends of its digits, how many of these bytes are digits (02, d), and its base. The suffix starts where the digits end.
-#[derive(Drop)]
+#[derive(Clone, Copy)]
 pub struct IntegerLit {
     pub start_main_part: usize,
     pub end_main_part: usize,
@@ -146,7 +148,7 @@ pub struct IntegerLit {
 }
 
 // A float: where the integer part, the fractional part and the exponent end, and how many digits each has (02, d). The suffix starts at the last end.
-#[derive(Drop)]
+#[derive(Clone, Copy)]
 pub struct FloatLit {
     pub end_integer_part: usize,
     pub end_fractional_part: usize,
@@ -156,27 +158,27 @@ pub struct FloatLit {
     pub exponent_digits: usize,
 }
 
-#[derive(Drop)]
+#[derive(Clone, Copy)]
 pub struct CharLit {
     pub start_suffix: usize,
     pub value: u32,
 }
 
-#[derive(Drop)]
+#[derive(Clone, Copy)]
 pub struct ByteLit {
     pub start_suffix: usize,
     pub value: u8,
 }
 
 // How many hashes a raw string has, or that it is not raw.
-#[derive(Drop)]
+#[derive(Clone, Copy)]
 pub enum Hashes {
     NotRaw,
     Raw(u8),
 }
 
 // A string, a byte string or a C string: its value is not kept, only how many bytes it has.
-#[derive(Drop)]
+#[derive(Clone, Copy)]
 pub struct StringLit {
     pub value_len: usize,
     pub start_suffix: usize,
@@ -184,7 +186,7 @@ pub struct StringLit {
 }
 
 // What reading a text returns.
-#[derive(Drop)]
+#[derive(Clone, Copy)]
 pub enum Reading {
     Refused(ParseErrorKind, Span),
     Bool(BoolLit),

@@ -1,9 +1,11 @@
 // The refusals that document 02 adds, with numbers from 50 on. They have no span.
+#![tactic(auto)]
+
 ghost use Rattle.std.specs.Prelude.{◌≡◌};
 ghost use Rattle.err_added.specs.Numbers.{added_number};
 
 // Why a call of document 02 refuses what it is given.
-#[derive(Drop)]
+#[derive(Clone, Copy)]
 pub enum AddedErrorKind {
     TooManyDigits,
 }

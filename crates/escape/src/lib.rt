@@ -1,4 +1,6 @@
 // One escape, as litrs's `unescape` reads it, and the bytes that its value stands for.
+#![tactic(auto)]
+
 ghost use Rattle.std.specs.Prelude.{◌≡◌, not, ◌&&◌, ◌+◌, ◌≤◌, ◌<◌, length};
 ghost use Rattle.buffer.specs.Buffer.{Wrote};
 ghost use Rattle.escape.specs.Allows.{unicode, byte_escapes, allow_nul};
@@ -9,7 +11,7 @@ use parse::HexDigit;
 use scan::ByteSet;
 
 // What a kind of literal allows: as text (chars and strings), as bytes, as a C string.
-#[derive(Drop)]
+#[derive(Clone, Copy)]
 pub enum Allowed {
     Text,
     Bytes,
@@ -52,7 +54,7 @@ impl Allowed {
 }
 
 // What an escape or a byte of a body stands for. A dropped line break stands for nothing.
-#[derive(Drop)]
+#[derive(Clone, Copy)]
 pub enum Unescaped {
     Nothing,
     Byte(u8),
@@ -60,7 +62,7 @@ pub enum Unescaped {
 }
 
 // The value of an escape and how many bytes the escape has, or the refusal, with its span from the escape's first byte.
-#[derive(Drop)]
+#[derive(Clone, Copy)]
 pub enum Escape {
     Value(Unescaped, usize),
     Bad(ParseErrorKind, Span),

@@ -1,5 +1,7 @@
 // One escape as one number, which tells how many bytes it has and what it stands for; 0 where it is refused. A loop over a body
 // reads a number several times faster than `escape::unescape`'s enum in an enum.
+#![tactic(auto)]
+
 ghost use Rattle.std.specs.Prelude.{◌≡◌, ◌≤◌, ◌<◌, length};
 ghost use Rattle.escape.specs.Escape.{x_escape, u_scalar, u_escape, escape_of};
 ghost use Rattle.escape_packed.specs.Packed.{packed_piece, packed_escape, packed_len, packed_value};

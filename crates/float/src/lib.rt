@@ -1,4 +1,6 @@
 // Float literals: integer part, fraction, exponent and suffix.
+#![tactic(auto)]
+
 ghost use Rattle.std.specs.Prelude.{◌≡◌, ◌≤◌, ◌<◌, length};
 ghost use Rattle.err.specs.Reading.{outcome_of};
 ghost use Rattle.err.specs.Counts.{no_counts, counts_of, kept_counts};
@@ -11,7 +13,7 @@ use parse::DigitRun;
 use scan::Byte;
 
 // A float literal, or why a text is none.
-#[derive(Drop)]
+#[derive(Clone, Copy)]
 pub enum Parsed {
     Lit(FloatLit),
     Refused(ParseErrorKind, Span),

@@ -1,4 +1,6 @@
 // Whether a string's settled form is known to fit from lengths alone, by the bound of four bytes for one.
+#![tactic(auto)]
+
 ghost use Rattle.std.specs.Prelude.{◌≡◌};
 ghost use Rattle.err.specs.Reading.{outcome_of};
 ghost use Rattle.literal.specs.Readings.{read_at};

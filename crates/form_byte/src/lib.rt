@@ -1,11 +1,13 @@
 // A byte of a quoted literal's value as the settled form writes it: measured, and written to the front of what is lent.
+#![tactic(auto)]
+
 ghost use Rattle.std.specs.Prelude.{◌≡◌, ◌≤◌, length};
 ghost use Rattle.buffer.specs.Buffer.{Wrote};
 ghost use Rattle.form.specs.Escapes.{escape_letter, x_form};
 ghost use Rattle.form_byte.specs.Styled.{high_form, styled_form, printable};
 
 // How a kind writes its value: its quote, and whether a byte above 127 stands as itself.
-#[derive(Drop)]
+#[derive(Clone, Copy)]
 pub struct Style {
     pub quote: u8,
     pub verbatim: bool,

@@ -1,4 +1,6 @@
 // The reduced number of a float: where its digits stand in the text, and its power of ten, found in a few passes.
+#![tactic(auto)]
+
 ghost use Rattle.std.specs.Prelude.{◌≡◌, cond, ◌≤◌, length, take, drop};
 ghost use Rattle.scan.specs.Run.{run};
 ghost use Rattle.grammar.specs.Notation.{begins, byte};
@@ -12,7 +14,7 @@ use err::{FloatLit, IntegerBase};
 use integer_value::Within;
 
 // Where the digits of the reduced number stand in the mantissa, and its power of ten.
-#[derive(Drop)]
+#[derive(Clone, Copy)]
 pub struct Scaled {
     pub first: usize,
     pub last: usize,
@@ -20,7 +22,7 @@ pub struct Scaled {
     pub power: u64,
 }
 
-#[derive(Drop)]
+#[derive(Clone, Copy)]
 pub enum Scaling {
     Zero,
     TooFar,
@@ -28,7 +30,7 @@ pub enum Scaling {
 }
 
 // An exponent: its sign, and its size, where all sizes above 2,000,000 are one.
-#[derive(Drop)]
+#[derive(Clone, Copy)]
 pub struct Exponent {
     pub negative: bool,
     pub size: u64,

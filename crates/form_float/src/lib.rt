@@ -1,4 +1,6 @@
 // A float's settled form without its suffix: the digits of the reduced number, `e` and the power of ten, measured and written from the text.
+#![tactic(auto)]
+
 ghost use Rattle.std.specs.Prelude.{◌≡◌, true, cond, ◌≤◌, length};
 ghost use Rattle.buffer.specs.Buffer.{Wrote};
 ghost use Rattle.form.specs.Reduced.{reduce};
@@ -11,7 +13,7 @@ use err::FloatLit;
 use form_decimal::{Scaled, Scaling};
 
 // How long a form is.
-#[derive(Drop)]
+#[derive(Clone, Copy)]
 pub enum FormLen {
     Known(usize),
     TooFar,

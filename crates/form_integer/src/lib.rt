@@ -1,4 +1,6 @@
 // An integer's settled form without its suffix.
+#![tactic(auto)]
+
 ghost use Rattle.std.specs.Prelude.{◌≡◌, ◌≤◌, length};
 ghost use Rattle.buffer.specs.Buffer.{Wrote};
 ghost use Rattle.form.specs.Form.{integer_form};

@@ -1,4 +1,6 @@
 // The settled form of a reading without its suffix: measured, and written to the front of what is lent.
+#![tactic(auto)]
+
 ghost use Rattle.std.specs.Prelude.{◌≡◌, true, false, [], ◌≤◌, length};
 ghost use Rattle.err.specs.Reading.{base_of, outcome_of};
 ghost use Rattle.err.specs.declared.Reading.TheVariants as reading;
@@ -19,7 +21,7 @@ use integer_value::Within;
 use types::IntegerType;
 
 // How long a form is without its suffix, or why there is none.
-#[derive(Drop)]
+#[derive(Clone, Copy)]
 pub enum Bare {
     Len(usize),
     Refused(ParseErrorKind, Span),

@@ -1,4 +1,6 @@
 // Integer literals: their base and digits, and their suffix.
+#![tactic(auto)]
+
 ghost use Rattle.std.specs.Prelude.{◌≡◌, ◌≤◌, length};
 ghost use Rattle.err.specs.Reading.{outcome_of, base_of, prefix_of};
 ghost use Rattle.err.specs.Counts.{no_counts, counts_of, kept_counts};
@@ -11,7 +13,7 @@ use parse::DigitRun;
 use scan::Byte;
 
 // An integer literal, or why a text is none.
-#[derive(Drop)]
+#[derive(Clone, Copy)]
 pub enum Parsed {
     Lit(IntegerLit),
     Refused(ParseErrorKind, Span),

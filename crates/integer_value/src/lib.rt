@@ -1,4 +1,6 @@
 // The value of an integer literal at a type.
+#![tactic(auto)]
+
 ghost use Rattle.std.specs.Prelude.{◌≡◌, ◌+◌, ◌*◌, ◌/◌, ◌≤◌, leb, length};
 ghost use Rattle.std.proofs.Math.Seq.{slice};
 ghost use Rattle.err.specs.Reading.{base_of};
@@ -7,7 +9,7 @@ ghost use Rattle.integer_value.specs.Value.{number, number_within, bounded, valu
 use err::{IntegerBase, IntegerLit, ParseErrorKind, Span};
 
 // The number that digits write, or that it is above a largest one.
-#[derive(Drop)]
+#[derive(Clone, Copy)]
 pub enum Within {
     Number(u64),
     Over,
@@ -55,7 +57,7 @@ fn widen(x: u8) -> u64
 }
 
 // The value of an integer literal, or why there is none.
-#[derive(Drop)]
+#[derive(Clone, Copy)]
 pub enum IntegerValue {
     Given(u64),
     Refused(ParseErrorKind, Span),

@@ -1,4 +1,6 @@
 // Takes all of standard input as a text, settles it and prints one line: `ok`, the kind and the form, or `no`, the refusal number and its span.
+#![tactic(auto)]
+
 use err::MAX_LEN;
 use libc::{STDIN_FILENO, STDOUT_FILENO};
 

@@ -1,4 +1,6 @@
 // The keyed entry (02, d): it reads as entry 0 does, but refuses numbers with too many digits.
+#![tactic(auto)]
+
 ghost use Rattle.std.specs.Prelude.{◌≡◌};
 ghost use Rattle.err.specs.Counts.{counts_of};
 ghost use Rattle.digits.specs.Counts.{digit_counts};
@@ -8,7 +10,7 @@ use err::Reading;
 use err_added::AddedErrorKind;
 
 // What the keyed entry returns: a reading, or the refusal that it adds.
-#[derive(Drop)]
+#[derive(Clone, Copy)]
 pub enum Keyed {
     Read(Reading),
     Refused(AddedErrorKind),

@@ -1,5 +1,7 @@
 // The calls that a user makes, of any code and any bytes. A refusal is the first of 42, 43, 44, litrs's own, 45 or 48.
 // The last clause of each user's call's contract says that the text at exit is what it was at entry.
+#![tactic(auto)]
+
 ghost use Rattle.std.specs.Prelude.{◌≡◌, ℕ, ◌≤◌, length};
 ghost use Rattle.integer_value.specs.Value.{valued_of};
 ghost use Rattle.err.specs.Outcome.{Place};
@@ -128,7 +130,7 @@ pub fn value(code: u64, text: &[u8]) -> IntegerValue
 }
 
 // A kind with decoded bytes, or that a code is none.
-#[derive(Drop)]
+#[derive(Clone, Copy)]
 pub enum KindFound {
     Kind(Allowed),
     Nothing,

@@ -1,4 +1,6 @@
 // Results in numbers, as C gets them: 100,000 plus a refusal's number, and what a reading holds.
+#![tactic(auto)]
+
 ghost use Rattle.std.specs.Prelude.{◌≡◌, ◌+◌};
 ghost use Rattle.err.specs.Numbers.{number_of};
 ghost use Rattle.err.specs.Outcome.{refused, none};

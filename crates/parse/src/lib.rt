@@ -1,4 +1,6 @@
 // The class of each byte, and the scans by class.
+#![tactic(auto)]
+
 ghost use Rattle.std.specs.Prelude.{◌≡◌, ◌<◌};
 ghost use Rattle.scan.specs.Run.{run};
 ghost use Rattle.parse.specs.Class.{class_of};
@@ -59,7 +61,7 @@ pub fn class_of(b: u8) -> u8
 }
 
 // Where digits and `_` at the front of a text end, and how many of these bytes are digits.
-#[derive(Drop)]
+#[derive(Clone, Copy)]
 pub struct DigitRun {
     pub end: usize,
     pub digits: usize,
@@ -84,7 +86,7 @@ pub fn digit_run(s: &[u8], base: u8) -> DigitRun
 }
 
 // A set of bytes that a scan passes over: what may follow in a suffix; what a dropped line break drops.
-#[derive(Drop)]
+#[derive(Clone, Copy)]
 pub enum ClassSet {
     SuffixRest,
     Blanks,
@@ -115,7 +117,7 @@ pub fn run_len(s: &[u8], set: ClassSet) -> usize
 }
 
 // A hex digit's value, or that a byte is none.
-#[derive(Drop)]
+#[derive(Clone, Copy)]
 pub enum HexDigit {
     Value(u8),
     NotHex,

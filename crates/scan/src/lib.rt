@@ -1,4 +1,6 @@
 // Reading a byte or nothing, comparing two texts, tests as numbers, whether some bytes are ASCII, and counting loops over a set of bytes.
+#![tactic(auto)]
+
 ghost use Rattle.std.specs.Prelude.{◌≡◌, ◌+◌, ◌-◌, ◌≤◌, min, max, length, get_or};
 ghost use Rattle.scan.specs.Bit.{bit};
 ghost use Rattle.scan.specs.Byte.{byte_of};
@@ -8,14 +10,14 @@ ghost use Rattle.scan.specs.Sets.{in_set, ascii};
 ghost use Rattle.scan.specs.Windows.{all_in};
 
 // The byte at an index, or nothing past the end.
-#[derive(Drop)]
+#[derive(Clone, Copy)]
 pub enum Byte {
     At(u8),
     Nothing,
 }
 
 // A set of bytes that a scan passes over: all but one, or one.
-#[derive(Drop)]
+#[derive(Clone, Copy)]
 pub enum ByteSet {
     Except(u8),
     Only(u8),

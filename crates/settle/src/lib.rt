@@ -1,5 +1,7 @@
 // Settled forms: the measure of a text's form, and the form written into a lent buffer. Any bytes may be handed in.
 // The last clause of each public contract says that the text at exit is what it was at entry.
+#![tactic(auto)]
+
 ghost use Rattle.std.specs.Prelude.{◌≡◌, length, ℕ};
 ghost use Rattle.err.specs.Outcome.{Place};
 ghost use Rattle.err.specs.Reading.{outcome_of};
@@ -12,7 +14,7 @@ use err::{ParseErrorKind, Reading, Span};
 use form_reading::Bare;
 
 // A form's kind and length, or why there is none.
-#[derive(Drop)]
+#[derive(Clone, Copy)]
 pub enum Settled {
     Formed(u8, usize),
     Refused(ParseErrorKind, Span),

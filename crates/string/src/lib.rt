@@ -1,4 +1,6 @@
 // String, byte string and C string literals, which differ in what they allow (`escape::Allowed`): their readings, and their decoded bytes.
+#![tactic(auto)]
+
 ghost use Rattle.std.specs.Prelude.{◌≡◌, ◌≤◌, ◌<◌, length};
 ghost use Rattle.err.specs.Reading.{outcome_of};
 ghost use Rattle.buffer.specs.Buffer.{Wrote};
@@ -51,7 +53,7 @@ fn reading(k: Allowed, lit: StringLit) -> Reading
 }
 
 // How a text begins: as a quoted literal of the kind, as a raw one, or as neither.
-#[derive(Drop)]
+#[derive(Clone, Copy)]
 pub enum Opening {
     Quoted,
     Raw,
@@ -131,14 +133,14 @@ pub fn parse(text: &[u8], k: Allowed) -> Reading
 }
 
 // How many bytes were written, or why none were.
-#[derive(Drop)]
+#[derive(Clone, Copy)]
 pub enum Decoded {
     Written(usize),
     Refused(ParseErrorKind, Span),
 }
 
 // Where a literal's value stands in its text: as it is, from one offset to another; or as a quoted body with escapes, from an offset.
-#[derive(Drop)]
+#[derive(Clone, Copy)]
 pub enum Inner {
     AsItIs(usize, usize),
     Escaped(usize),

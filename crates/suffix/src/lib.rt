@@ -1,4 +1,6 @@
 // The check of a suffix.
+#![tactic(auto)]
+
 ghost use Rattle.std.specs.Prelude.{◌≡◌};
 ghost use Rattle.err.specs.Checked.{checked_of};
 ghost use Rattle.suffix.specs.Suffix.{suffix_fault, suffix_start};

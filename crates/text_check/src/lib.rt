@@ -1,4 +1,6 @@
 // What is checked of a text before it is read.
+#![tactic(auto)]
+
 ghost use Rattle.std.specs.Prelude.{◌≡◌};
 ghost use Rattle.err.specs.Checked.{checked_of};
 ghost use Rattle.text_check.specs.Checks.{text_fault};

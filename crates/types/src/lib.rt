@@ -1,8 +1,10 @@
 // The types that a suffix can name: their names, their codes, and the largest values of those that have values here.
+#![tactic(auto)]
+
 ghost use Rattle.std.specs.Prelude.{◌≡◌};
 ghost use Rattle.types.specs.Types.{integer_named, integer_coded, integer_code, largest_of, float_named, float_code};
 
-#[derive(Drop)]
+#[derive(Clone, Copy)]
 pub enum IntegerType {
     U8,
     U16,
@@ -19,14 +21,14 @@ pub enum IntegerType {
 }
 
 // An integer type, or that a name or a code is none.
-#[derive(Drop)]
+#[derive(Clone, Copy)]
 pub enum IntegerFound {
     Type(IntegerType),
     Nothing,
 }
 
 // A type's largest value, or that the type has no values here.
-#[derive(Drop)]
+#[derive(Clone, Copy)]
 pub enum Largest {
     Value(u64),
     NoValues,
@@ -155,14 +157,14 @@ impl IntegerType {
     }
 }
 
-#[derive(Drop)]
+#[derive(Clone, Copy)]
 pub enum FloatType {
     F32,
     F64,
 }
 
 // A float type, or that a name is none.
-#[derive(Drop)]
+#[derive(Clone, Copy)]
 pub enum FloatFound {
     Type(FloatType),
     Nothing,

@@ -1,4 +1,6 @@
 // UTF-8, as RFC 3629 has it: a character's length, a character read and written, and where characters end.
+#![tactic(auto)]
+
 ghost use Rattle.std.specs.Prelude.{◌≡◌, ◌≤◌, length, drop};
 ghost use Rattle.buffer.specs.Buffer.{Wrote};
 ghost use Rattle.utf8.specs.Utf8.{Scalar, encode};
@@ -6,7 +8,7 @@ ghost use Rattle.utf8.specs.Decode.{length_from, decode2, decode3, decode4, deco
 ghost use Rattle.utf8.specs.Cut.{continuation, is_boundary, last_len};
 
 // The character at a place of a text, with its length in bytes, or none.
-#[derive(Drop)]
+#[derive(Clone, Copy)]
 pub enum Decoded {
     Char { scalar: u32, len: usize },
     Bad,

@@ -1,4 +1,6 @@
 // Whether a long text is UTF-8: every byte is held against the three before it, in blocks. And the highest byte of a text.
+#![tactic(auto)]
+
 ghost use Rattle.std.specs.Prelude.{◌≡◌, cond, ◌+◌, ◌-◌, ◌≤◌, ltb, length, take, drop};
 ghost use Rattle.scan.specs.Run.{run};
 ghost use Rattle.utf8.specs.Valid.{is_utf8};

@@ -1,4 +1,6 @@
 // Whether a text is UTF-8: a short one, where it is not ASCII, is checked character by character, a long one byte by byte in blocks.
+#![tactic(auto)]
+
 ghost use Rattle.std.specs.Prelude.{◌≡◌, ◌+◌, ◌≤◌, ◌<◌, length, drop};
 ghost use Rattle.scan.specs.Sets.{ascii};
 ghost use Rattle.scan.specs.Windows.{all_in};
