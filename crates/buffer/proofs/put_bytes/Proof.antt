@@ -10,37 +10,37 @@ use Rattle.buffer.proofs.put_bytes.Statement.{statement}
 use Rattle.buffer.proofs.put_bytes.Tie as tie
 
 -- the first i bytes are written
-abbrev invariant_loop : tie.invariant-loop
+abbrev invariant_loop : tie.invariant-loop-i
 invariant_loop out₀ piece i₀ out i = (i ≤ length piece) × Wrote (take i piece) i out₀ out
 
-abbrev decreases_loop : tie.decreases-loop
+abbrev decreases_loop : tie.decreases-loop-i
 decreases_loop out₀ piece i₀ out i = length piece - i
 
-done : (c : tie.After-loop invariant_loop decreases_loop) → Wrote c.before.before.args.piece.now c.before.loop.i c.before.before.args.out.now c.before.loop.out
-done c = laws.copied_all _ c.before.loop.invariant.1 c.loop-test.false
+done : (c : tie.After-loop-i invariant_loop decreases_loop) → Wrote c.args.piece.now c.loop-i.i c.args.out.now c.loop-i.out
+done c = laws.copied_all _ c.loop-i.invariant.1 c.loop-i-test.false
 
-loop-holds : tie.Need-loop-init invariant_loop decreases_loop
+loop-holds : tie.Need-loop-i-init invariant_loop decreases_loop
 loop-holds c = (search rules, laws.nothing _)
 
-shared-slice-read-out : tie.Need-shared-slice-read-out invariant_loop decreases_loop
+shared-slice-read-out : tie.Need-bounds-piece-i invariant_loop decreases_loop
 shared-slice-read-out c = search rules
 
-slice-write-out : tie.Need-slice-write-out invariant_loop decreases_loop
+slice-write-out : tie.Need-bounds-out-i invariant_loop decreases_loop
 slice-write-out c =
-    let w = c.before.before.loop.invariant.1 in
+    let w = c.loop-i.invariant.1 in
     omega (arith, laws.wrote_length w (omega (arith, w.count)))
 
-add-i : tie.Need-overflow-add-i invariant_loop decreases_loop
+add-i : tie.Need-overflow_add-i invariant_loop decreases_loop
 add-i c = search rules
 
-loop-less : tie.Need-loop-smaller invariant_loop decreases_loop
+loop-less : tie.Need-loop-i-smaller invariant_loop decreases_loop
 loop-less c = search rules
 
-loop-again : tie.Need-loop-preserved invariant_loop decreases_loop
-loop-again c = (search rules, laws.copied _ c.before.before.loop.invariant.1 c.before.loop-test.true (omega arith))
+loop-again : tie.Need-loop-i-preserved invariant_loop decreases_loop
+loop-again c = (search rules, laws.copied _ c.loop-i.invariant.1 c.loop-i-test.true (omega arith))
 
-same_length : tie.Need-same-length invariant_loop decreases_loop
-same_length c = laws.wrote_length (done c) c.before.before.requires
+same_length : tie.Need-shape_of-out invariant_loop decreases_loop
+same_length c = laws.wrote_length (done c) c.requires
 
 returns : tie.Need-returns invariant_loop decreases_loop
 returns c = done c
