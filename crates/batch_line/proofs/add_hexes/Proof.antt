@@ -14,72 +14,68 @@ use Rattle.batch_line.proofs.Laws as laws
 use Rattle.batch_line.proofs.add_hexes.Statement.{statement}
 use Rattle.batch_line.proofs.add_hexes.Tie as tie
 
-abbrev invariant_loop : tie.invariant-loop
+abbrev invariant_loop : tie.invariant-loop-i
 invariant_loop line₀ at bytes end₀ i₀ line end i = (i ≤ length bytes) × ((length line ≡ length line₀) × Added (hexes (take i bytes)) at end line₀ line)
 
-abbrev decreases_loop : tie.decreases-loop
+abbrev decreases_loop : tie.decreases-loop-i
 decreases_loop line₀ at bytes end₀ i₀ line end i = length bytes - i
 
 -- two digits more fit
-fits : (c : tie.In-loop invariant_loop decreases_loop) → c.before.loop.end + 2 ≤ length c.before.loop.line
+fits : (c : tie.In-loop-i invariant_loop decreases_loop) → c.loop-i.end + 2 ≤ length c.loop-i.line
 fits c =
-    let l = c.before.loop in
-    let a = c.before.before.before.before in
-    let s = take l.i a.args.bytes.now in
-    omega (arith, l.invariant.1.1.count, laws.hexes_length s, length-take-le l.i a.args.bytes.now l.invariant.0, c.loop-test.true, a.requires, l.invariant.1.0)
+    let l = c.loop-i in
+    let s = take l.i c.args.bytes.now in
+    omega (arith, l.invariant.1.1.count, laws.hexes_length s, length-take-le l.i c.args.bytes.now l.invariant.0, c.loop-i-test.true, c.requires, l.invariant.1.0)
 
-loop-holds : tie.Need-loop-init invariant_loop decreases_loop
+loop-holds : tie.Need-loop-i-init invariant_loop decreases_loop
 loop-holds c = (search rules, (refl, laws.added_none _ _ (search rules)))
 
-sub-put-hex : tie.Need-overflow-sub-put-hex invariant_loop decreases_loop
+sub-put-hex : tie.Need-slice_bounds-put_hex-count invariant_loop decreases_loop
 sub-put-hex c = omega (arith, fits c)
 
-part-put-hex-start : tie.Need-slice-bounds-put-hex-start invariant_loop decreases_loop
+part-put-hex-start : tie.Need-slice_bounds-put_hex-start invariant_loop decreases_loop
 part-put-hex-start c = omega (arith, fits c)
 
-part-put-hex-end : tie.Need-slice-bounds-put-hex-end invariant_loop decreases_loop
+part-put-hex-end : tie.Need-slice_bounds-put_hex-end invariant_loop decreases_loop
 part-put-hex-end c = search rules
 
-shared-slice-read-put-hex : tie.Need-shared-slice-read-put-hex invariant_loop decreases_loop
+shared-slice-read-put-hex : tie.Need-bounds-bytes-i invariant_loop decreases_loop
 shared-slice-read-put-hex c = search rules
 
-put-hex-requires : tie.Need-put-hex-requires invariant_loop decreases_loop
+put-hex-requires : tie.Need-put_hex-end-requires invariant_loop decreases_loop
 put-hex-requires c κs =
-    let l = c.before.before in
-    laws.room l.before.loop.end 2 l.before.loop.line (fits l)
+    laws.room c.loop-i.end 2 c.loop-i.line (fits c.before.before)
 
-add-end : tie.Need-overflow-add-end invariant_loop decreases_loop
+add-end : tie.Need-overflow_add-end invariant_loop decreases_loop
 unfolding hex_digits
 add-end c =
-    let l = c.before.before.before.before.before in
-    omega (arith, fits l, c.before.before.put-hex.ensures.count, l.before.before.before.before.well-formed)
+    omega (arith, fits c.before.before.before.before.before, c.put_hex-end.ensures.count, c.well_formed)
 
-add-i : tie.Need-overflow-add-i invariant_loop decreases_loop
+add-i : tie.Need-overflow_add-i invariant_loop decreases_loop
 add-i c = search rules
 
-loop-less : tie.Need-loop-smaller invariant_loop decreases_loop
+loop-less : tie.Need-loop-i-smaller invariant_loop decreases_loop
 loop-less c = search rules
 
-loop-again : tie.Need-loop-preserved invariant_loop decreases_loop
+loop-again : tie.Need-loop-i-preserved invariant_loop decreases_loop
 unfolding hex_digits
 loop-again c =
-    let l = c.before.before.before.before.before in
-    let s = l.before.before.before.before.args.bytes.now in (
+    let s = c.args.bytes.now in (
       search rules,
       (
         search rules,
-        rw (laws.hexes_more s l.before.loop.i l.loop-test.true)
-            (laws.added l.before.loop.invariant.1.1 (laws.rest _ _ c.before.before.put-hex.ensures (fits l)) (search rules)),
+        rw (laws.hexes_more s c.loop-i.i c.loop-i-test.true)
+            (laws.added c.loop-i.invariant.1.1 (laws.rest _ _ c.put_hex-end.ensures (fits c.before.before.before.before.before)) (search rules)),
       ),
     )
 
-same_length : tie.Need-same-length invariant_loop decreases_loop
+same_length : tie.Need-shape_of-line invariant_loop decreases_loop
 same_length c = search rules
 
 returns : tie.Need-returns invariant_loop decreases_loop
 returns c =
-    let s = c.before.before.before.before.args.bytes.now in
-    rw (take_all c.before.loop.i s c.loop-test.false) at c.before.loop.invariant.1.1
+    let s = c.args.bytes.now in
+    rw (take_all c.loop-i.i s c.loop-i-test.false) at c.loop-i.invariant.1.1
 
 pub add_hexes_spec : {M : Type 1} → statement M
 add_hexes_spec =

@@ -19,86 +19,86 @@ use Rattle.parse.proofs.digit_run.Statement.{statement}
 use Rattle.parse.proofs.digit_run.Tie as tie
 
 -- the run of the whole is what is passed and the run of the rest; so is its count
-abbrev invariant_loop : tie.invariant-loop
+abbrev invariant_loop : tie.invariant-loop-i
 invariant_loop s base digits₀ i₀ digits i =
     (i ≤ length s) × (digits ≤ i) × (i + run (digit base) (drop i s) ≡ run (digit base) s)
     × (digits + tally (digit base) (is_digit base) (drop i s) ≡ tally (digit base) (is_digit base) s)
 
-abbrev decreases_loop : tie.decreases-loop
+abbrev decreases_loop : tie.decreases-loop-i
 decreases_loop s base digits₀ i₀ digits i = length s - i
 
-loop-holds : tie.Need-loop-init invariant_loop decreases_loop
+loop-holds : tie.Need-loop-i-init invariant_loop decreases_loop
 loop-holds c = search rules
 
-shared-slice-read-class-of : tie.Need-shared-slice-read-class-of invariant_loop decreases_loop
+shared-slice-read-class-of : tie.Need-bounds-s-i invariant_loop decreases_loop
 shared-slice-read-class-of c = search rules
 
-class-of-requires : tie.Need-class-of-requires invariant_loop decreases_loop
+class-of-requires : tie.Need-class_of-class-requires invariant_loop decreases_loop
 class-of-requires c κs = search rules
 
-add-digits : tie.Need-overflow-add-digits invariant_loop decreases_loop
+add-digits : tie.Need-overflow_add-digits invariant_loop decreases_loop
 add-digits c = search rules
 
 -- a byte that is neither a digit nor `_`
-other : (c : tie.Then2 invariant_loop decreases_loop) →
+other : (c : tie.Then-class-ne16 invariant_loop decreases_loop) →
     let b = c.before.before.before.before in
-    let a = b.before.before.before.args in
-    digit a.base (get_or a.s.now b.before.loop.i 0) ≡ false
+    let a = b.args in
+    digit a.base (get_or a.s.now b.loop-i.i 0) ≡ false
 unfolding digit
 other c =
     let b = c.before.before.before.before in
-    let a = b.before.before.before.args in
-    let class = class_of (get_or a.s.now b.before.loop.i 0) in
-    let e = c.before.before.class_of.ensures in
-    let low : eqb class 16 ≡ false = ne_eqb class 16 (λ q. c.if2.true (e ∙ q)) in
-    let below : ltb class a.base ≡ false = le-ltb class a.base (omega (arith, e, c.before.if1.false)) in
+    let a = b.args in
+    let class = class_of (get_or a.s.now b.loop-i.i 0) in
+    let e = c.class_of-class.ensures in
+    let low : eqb class 16 ≡ false = ne_eqb class 16 (λ q. c.if-class-ne16.true (e ∙ q)) in
+    let below : ltb class a.base ≡ false = le-ltb class a.base (omega (arith, e, c.if-class-base.false)) in
     rw (low, below)
 
-returns : tie.Need-returns invariant_loop decreases_loop
+returns : tie.Need-returns-then-class-ne16 invariant_loop decreases_loop
 unfolding digit_count
 returns c =
     let b = c.before.before.before.before in
-    let v = b.before.loop.invariant in
-    record { end = sym (run_stop _ _ _ b.loop-test.true (other c)) ∙ v.2; count = sym (tally_stop _ _ _ _ _ b.loop-test.true (other c)) ∙ v.3 }
+    let v = b.loop-i.invariant in
+    record { end = sym (run_stop _ _ _ b.loop-i-test.true (other c)) ∙ v.2; count = sym (tally_stop _ _ _ _ _ b.loop-i-test.true (other c)) ∙ v.3 }
 
 -- the byte is a digit or `_`, and is counted where it is a digit
-step : (c : tie.Joined1 invariant_loop decreases_loop) →
+step : (c : tie.Joined-class-base invariant_loop decreases_loop) →
     let b = c.before.before.before.before in
-    let a = b.before.before.args in
-    (c.if1.digits ≡ b.loop.digits + cond (is_digit a.base (get_or a.s.now b.loop.i 0)) 1 0) × (digit a.base (get_or a.s.now b.loop.i 0) ≡ true)
-    × (c.if1.digits ≤ b.loop.digits + 1)
+    let a = b.args in
+    (c.if-class-base.digits ≡ b.loop-i.digits + cond (is_digit a.base (get_or a.s.now b.loop-i.i 0)) 1 0) × (digit a.base (get_or a.s.now b.loop-i.i 0) ≡ true)
+    × (c.if-class-base.digits ≤ b.loop-i.digits + 1)
 unfolding is_digit digit
 step c =
     let b = c.before.before.before.before in
-    let a = b.before.before.args in
-    let class = class_of (get_or a.s.now b.loop.i 0) in
-    let e = c.before.class_of.ensures in
+    let a = b.args in
+    let class = class_of (get_or a.s.now b.loop-i.i 0) in
+    let e = c.class_of-class.ensures in
     ⊎_elim
     (λ w. let below : ltb class a.base ≡ true = lt-ltb class a.base (omega (arith, e, w.0.taken)) in (w.1 ∙ rw below, rw (below, or-true), omega (arith, w.1)))
     (λ w.
     let above : ltb class a.base ≡ false = le-ltb class a.base (omega (arith, e, w.0.left)) in
     let low : eqb class 16 ≡ true = eq-eqb class 16 (sym e ∙ w.1.left) in
     (w.2 ∙ rw above (omega arith), rw low, omega (arith, w.2)))
-    c.if1.branch
+    c.if-class-base.branch
 
-add-i : tie.Need-overflow-add-i invariant_loop decreases_loop
+add-i : tie.Need-overflow_add-i invariant_loop decreases_loop
 add-i c = search rules
 
-loop-less : tie.Need-loop-smaller invariant_loop decreases_loop
+loop-less : tie.Need-loop-i-smaller invariant_loop decreases_loop
 loop-less c = search rules
 
-loop-again : tie.Need-loop-preserved invariant_loop decreases_loop
+loop-again : tie.Need-loop-i-preserved invariant_loop decreases_loop
 loop-again c =
     let b = c.before.before.before in
-    let v = b.before.loop.invariant in
+    let v = b.loop-i.invariant in
     let st = step c in
-    (search rules, omega (arith, st.2, v.1), sym (run_more _ _ _ b.loop-test.true st.1) ∙ v.2, rw st.0 (tally_more _ _ _ _ _ b.loop-test.true st.1) ∙ v.3)
+    (search rules, omega (arith, st.2, v.1), sym (run_more _ _ _ b.loop-i-test.true st.1) ∙ v.2, rw st.0 (tally_more _ _ _ _ _ b.loop-i-test.true st.1) ∙ v.3)
 
-returns-2 : tie.Need-returns-2 invariant_loop decreases_loop
+returns-2 : tie.Need-returns invariant_loop decreases_loop
 unfolding digit_count
 returns-2 c =
-    let v = c.before.loop.invariant in
-    record { end = sym (run_end _ _ _ c.loop-test.false) ∙ v.2; count = sym (tally_end _ _ _ _ _ c.loop-test.false) ∙ v.3 }
+    let v = c.loop-i.invariant in
+    record { end = sym (run_end _ _ _ c.loop-i-test.false) ∙ v.2; count = sym (tally_end _ _ _ _ _ c.loop-i-test.false) ∙ v.3 }
 
 pub digit_run_spec : {M : Type 1} → statement M
 digit_run_spec =
