@@ -1,6 +1,7 @@
 -- `batch_line::add_counts` meets its contract.
 -- Assumes nothing.
 use native.Mathlib.Omega.{arith}
+use borrow.Enum.Refused.{opened}
 use Rattle.err.proofs.Counts.{no_number}
 use Rattle.batch_line.proofs.Laws as laws
 use Rattle.batch_line.proofs.add_counts.Goals as goal
@@ -14,4 +15,4 @@ returns-in-Float c = rw c.in-Float.is c.add_three.ensures
 pub returns-in_default : goal.returns-in_default
 returns-in_default c =
     let a = c.args in
-    (rw (no_number a.r c.in_default.in_default-own.keys3) (laws.added_none _ _ (omega (arith, c.requires))), omega arith)
+    (rw (no_number a.r (opened c.in_default.in_default-own.keys3)) (laws.added_none _ _ (omega (arith, c.requires))), omega arith)

@@ -74,12 +74,12 @@ step c =
     let class = class_of (get_or a.s.now b.loop-i.i 0) in
     let e = c.class_of-class.ensures in
     ⊎_elim
-    (λ w. let below : ltb class a.base ≡ true = lt-ltb class a.base (omega (arith, e, w.0.taken)) in (w.1 ∙ rw below, rw (below, or-true), omega (arith, w.1)))
+    (λ w. let below : ltb class a.base ≡ true = lt-ltb class a.base (omega (arith, e, w.if-class-base.true)) in (w.digits-is ∙ rw below, rw (below, or-true), omega (arith, w.digits-is)))
     (λ w.
-    let above : ltb class a.base ≡ false = le-ltb class a.base (omega (arith, e, w.0.left)) in
-    let low : eqb class 16 ≡ true = eq-eqb class 16 (sym e ∙ w.1.left) in
-    (w.2 ∙ rw above (omega arith), rw low, omega (arith, w.2)))
-    c.if-class-base.branch
+    let above : ltb class a.base ≡ false = le-ltb class a.base (omega (arith, e, w.if-class-base.false)) in
+    let low : eqb class 16 ≡ true = eq-eqb class 16 (sym e ∙ w.if-class-ne16.false) in
+    (w.digits-is ∙ rw above (omega arith), rw low, omega (arith, w.digits-is)))
+    c.if-class-base.branch-raw
 
 add-i : tie.Need-overflow_add-i invariant_loop decreases_loop
 add-i c = search rules
