@@ -5,31 +5,27 @@ use native.Mathlib.Omega.{arith}
 use borrow.Author.Tests.{eq-eqb, ne_eqb, le-leb, lt-leb}
 use Rattle.parse.proofs.Classes.{within_above, within_below, within_is}
 use Rattle.suffix.proofs.Starts.{start_is}
-use Rattle.suffix.proofs.starts_suffix.Statement.{statement}
-use Rattle.suffix.proofs.starts_suffix.Tie as tie
+use Rattle.suffix.proofs.starts_suffix.Goals as goal
 
-returns : tie.Need-returns
-returns c =
-    let b = c.before.before.args.b in
+pub returns-then-b-le122 : goal.returns-then-b-le122
+returns-then-b-le122 c =
+    let b = c.args.b in
     rw (start_is, within_is 97 122 b (omega arith) (omega arith), or-true)
 
-returns-2 : tie.Need-returns-2
-returns-2 c =
-    let b = c.before.before.args.b in
+pub returns-then-b-ge97 : goal.returns-then-b-ge97
+returns-then-b-ge97 c =
+    let b = c.args.b in
     rw (start_is, ne_eqb b 95 (omega arith), within_above 97 122 b (omega arith), within_above 65 90 b (omega arith))
 
-returns-3 : tie.Need-returns-3
-returns-3 c = rw (start_is, eq-eqb _ _ c.if3.true)
+pub returns-then-b-eq95 : goal.returns-then-b-eq95
+returns-then-b-eq95 c = rw (start_is, eq-eqb _ _ c.if-b-eq95.true)
 
-returns-4 : tie.Need-returns-4
-returns-4 c =
-    let b = c.before.before.before.args.b in
+pub returns-then-b-lt65 : goal.returns-then-b-lt65
+returns-then-b-lt65 c =
+    let b = c.args.b in
     rw (start_is, ne_eqb b 95 (omega arith), within_below 97 122 b (omega arith), within_below 65 90 b (omega arith), lt-leb 128 b (omega arith))
 
-returns-5 : tie.Need-returns-5
-returns-5 c =
-    let b = c.before.before.before.args.b in
+pub returns : goal.returns
+returns c =
+    let b = c.args.b in
     rw (start_is, ne_eqb b 95 (omega arith), within_below 97 122 b (omega arith), le-leb 65 b (omega arith), lt-leb 128 b (omega arith), or-false)
-
-pub starts_suffix_spec : {M : Type 1} → statement M
-starts_suffix_spec = tie.close (tie.spec returns returns-2 returns-3 returns-4 returns-5)

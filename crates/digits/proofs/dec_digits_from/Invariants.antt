@@ -1,0 +1,19 @@
+-- `digits::dec_digits_from`: what its loops keep, and why they end.
+-- Assumes nothing.
+use Prim.Native.Nat.{◌≤◌, ◌+◌, ◌-◌}
+use mathlib.Core.Path.{◌≡◌}
+use lib.ListN.{length, drop}
+use Rattle.scan.specs.Run.{run}
+use Rattle.scan.proofs.Counts.{tally}
+use Rattle.parse.specs.Sets.{digit}
+use Rattle.parse.specs.Digits.{is_digit}
+use Rattle.digits.proofs.dec_digits_from.Given as goal
+
+-- the run from `i` ends where the run from the start does, and the counts are the same
+abbrev pub invariant-loop-i : goal.invariant-loop-i
+invariant-loop-i l =
+    (l.i ≤ length l.s) × (l.digits ≤ l.i) × (l.i + run (digit 10) (drop l.i l.s) ≡ l.initial.i + run (digit 10) (drop l.initial.i l.s))
+    × (l.digits + tally (digit 10) (is_digit 10) (drop l.i l.s) ≡ l.initial.digits + tally (digit 10) (is_digit 10) (drop l.initial.i l.s))
+
+abbrev pub decreases-loop-i : goal.decreases-loop-i
+decreases-loop-i l = length l.s - l.i
