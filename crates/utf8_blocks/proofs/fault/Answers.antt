@@ -1,0 +1,10 @@
+-- `utf8_blocks::fault` meets its contract.
+-- Assumes nothing.
+use Rattle.utf8_blocks.proofs.Faults.{fault_is}
+use borrow.Author.Rules.{rules}
+use Rattle.utf8_blocks.proofs.fault.Goals as goal
+
+pub returns : goal.returns
+returns c =
+    simp (c.larger-3.ensures, c.larger-2.ensures, c.larger-outside.ensures, c.mask-4.ensures, c.four_byte_lead_against.ensures, c.mask-3.ensures, c.three_byte_lead_against.ensures, c.larger-never.ensures, c.mask-2.ensures, c.mask.ensures, c.mask-odd.ensures, c.is_continuation.ensures, c.larger-wanted.ensures, c.larger.ensures, c.excess-3.ensures, c.excess-2.ensures, c.excess.ensures)
+    (fault_is _ _ _ c.args.x (search rules))
