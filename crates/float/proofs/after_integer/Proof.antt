@@ -11,61 +11,55 @@ use borrow.Author.Rules.{rules}
 use Rattle.float.proofs.after_integer.Statement.{statement}
 use Rattle.float.proofs.after_integer.Tie as tie
 
-fraction-end-requires : tie.Need-fraction-end-requires
-fraction-end-requires c κs = c.before.requires.inside
+fraction-end-requires : tie.Need-fraction_end-fraction-requires
+fraction-end-requires c κs = c.requires.inside
 
-add-from : tie.Need-overflow-add-from
-add-from c = omega (arith, c.before.fraction-end.ensures.inside, c.if1.true, c.before.before.before.well-formed)
+add-from : tie.Need-overflow_add-from
+add-from c = omega (arith, c.fraction_end-fraction.ensures.inside, c.if-i-f.true, c.well_formed)
 
-bad-fraction-requires : tie.Need-bad-fraction-requires
+bad-fraction-requires : tie.Need-bad_fraction-requires
 bad-fraction-requires c κs = search rules
 
-add-t12 : tie.Need-overflow-add-t12
+add-t12 : tie.Need-overflow_add-result
 add-t12 c =
-    let b = c.before.before in
-    omega (arith, b.before.fraction-end.ensures.inside, b.if1.true, b.before.before.before.well-formed)
+    omega (arith, c.fraction_end-fraction.ensures.inside, c.if-i-f.true, c.well_formed)
 
-returns : tie.Need-returns
+returns : tie.Need-returns-then-bad_fraction
 returns c =
-    let b = c.before.before in
-    (rw (by_fraction, ← b.before.fraction-end.ensures.end, lt-ltb _ _ b.if1.true, ← c.before.bad-fraction.ensures, c.if2.true), refl)
+    (rw (by_fraction, ← c.fraction_end-fraction.ensures.end, lt-ltb _ _ c.if-i-f.true, ← c.bad_fraction.ensures, c.if-bad_fraction.true), refl)
 
 -- after the fraction
-past_fraction : (c : tie.Joined1) →
-    let a = c.before.before.before.args in
-    after_integer a.text.now a.whole.end ≡ after_fraction a.text.now a.whole.end c.before.fraction-end.result.end
+past_fraction : (c : tie.Joined-i-f) →
+    let a = c.args in
+    after_integer a.text.now a.whole.end ≡ after_fraction a.text.now a.whole.end c.fraction_end-fraction.result.end
 past_fraction c =
-    let e = c.before.fraction-end.ensures.end in
-    ⊎_elim (λ x. rw (by_fraction, ← e, lt-ltb _ _ x.0.taken, ← x.1.ensures, x.2.left)) (λ x. rw (by_fraction, ← e, le-ltb _ _ x.left)) c.if1.branch
+    let e = c.fraction_end-fraction.ensures.end in
+    ⊎_elim (λ x. rw (by_fraction, ← e, lt-ltb _ _ x.0.taken, ← x.1.ensures, x.2.left)) (λ x. rw (by_fraction, ← e, le-ltb _ _ x.left)) c.if-i-f.branch
 
-exponent-end-requires : tie.Need-exponent-end-requires
-exponent-end-requires c κs = c.before.fraction-end.ensures.inside
+exponent-end-requires : tie.Need-exponent_end-exponent-requires
+exponent-end-requires c κs = c.fraction_end-fraction.ensures.inside
 
-returns-2 : tie.Need-returns-2
+returns-2 : tie.Need-returns-then-exponent-eq0
 returns-2 c =
-    let b = c.before.before in
-    let x = b.before.exponent-end.ensures in
-    (rw (past_fraction b.before.before, by_exponent, ← x.end, lt-ltb _ _ b.if3.true, lone _ _ _ x b.if3.true c.if4.true), refl)
+    let x = c.exponent_end-exponent.ensures in
+    (rw (past_fraction c.before.before.before.before, by_exponent, ← x.end, lt-ltb _ _ c.if-f-end.true, lone _ _ _ x c.if-f-end.true c.if-exponent-eq0.true), refl)
 
 -- after the exponent
-past_exponent : (c : tie.Joined3) →
-    let f = c.before.before.before in
-    let a = f.before.before.args in
-    after_integer a.text.now a.whole.end ≡ after_number a.text.now a.whole.end f.fraction-end.result.end c.before.exponent-end.result.end
+past_exponent : (c : tie.Joined-f-end) →
+    let a = c.args in
+    after_integer a.text.now a.whole.end ≡ after_number a.text.now a.whole.end c.fraction_end-fraction.result.end c.exponent_end-exponent.result.end
 past_exponent c =
-    let e = c.before.exponent-end.ensures in
+    let e = c.exponent_end-exponent.ensures in
     past_fraction c.before.before ∙
-    ⊎_elim (λ x. rw (by_exponent, ← e.end, lt-ltb _ _ x.0.taken, some _ _ _ e x.0.taken x.2.left)) (λ x. rw (by_exponent, ← e.end, le-ltb _ _ x.left)) c.if3.branch
+    ⊎_elim (λ x. rw (by_exponent, ← e.end, lt-ltb _ _ x.0.taken, some _ _ _ e x.0.taken x.2.left)) (λ x. rw (by_exponent, ← e.end, le-ltb _ _ x.left)) c.if-f-end.branch
 
-after-number-requires : tie.Need-after-number-requires
-after-number-requires c κs = c.before.exponent-end.ensures.inside
+after-number-requires : tie.Need-after_number-requires
+after-number-requires c κs = c.exponent_end-exponent.ensures.inside
 
-returns-3 : tie.Need-returns-3
+returns-3 : tie.Need-returns
 returns-3 c =
-    let r = c.after-number.ensures in
-    let x = c.before.before in
-    let f = x.before.before in
-    (rw (past_exponent c.before) r.0, r.1 ∙ number_counts _ _ _ _ _ _ r.0 (three_counts _ _ _ _ f.before.before.requires f.fraction-end.ensures x.exponent-end.ensures))
+    let r = c.after_number.ensures in
+    (rw (past_exponent c.before) r.0, r.1 ∙ number_counts _ _ _ _ _ _ r.0 (three_counts _ _ _ _ c.requires c.fraction_end-fraction.ensures c.exponent_end-exponent.ensures))
 
 pub after_integer_spec : {M : Type 1} → statement M
 after_integer_spec =

@@ -15,51 +15,50 @@ use borrow.Author.Rules.{rules}
 use Rattle.float.proofs.after_number.Statement.{statement}
 use Rattle.float.proofs.after_number.Tie as tie
 
-not-integer-requires : tie.Need-not-integer-requires
+not-integer-requires : tie.Need-not_integer-requires
 not-integer-requires c κs = search rules
 
-returns : tie.Need-returns
+returns : tie.Need-returns-then-end-text
 unfolding after_number
 returns c =
-    let a = c.before.before.before.args in
-    (rw (no_suffix a.text.now a.lit.end_number_part c.before.if1.true) c.not-integer.ensures.0, c.not-integer.ensures.1)
+    let a = c.args in
+    (rw (no_suffix a.text.now a.lit.end_number_part c.if-end-text.true) c.not_integer.ensures.0, c.not_integer.ensures.1)
 
-sub-check-suffix : tie.Need-overflow-sub-check-suffix
+sub-check-suffix : tie.Need-slice_bounds-check_suffix-count
 sub-check-suffix c = search rules
 
-part-check-suffix-start : tie.Need-slice-bounds-check-suffix-start
+part-check-suffix-start : tie.Need-slice_bounds-check_suffix-start
 part-check-suffix-start c = search rules
 
-part-check-suffix-end : tie.Need-slice-bounds-check-suffix-end
+part-check-suffix-end : tie.Need-slice_bounds-check_suffix-end
 part-check-suffix-end c = search rules
 
-check-suffix-requires : tie.Need-check-suffix-requires
+check-suffix-requires : tie.Need-check_suffix-checked-requires
 check-suffix-requires c κs = search rules
 
-enum-known-checked : tie.Need-enum-known-checked
+enum-known-checked : tie.Need-enum_known-checked
 enum-known-checked c = search rules
 
-enum_told : tie.Need-enum-told
+enum_told : tie.Need-enum_told-1
 enum_told c = search rules
 
-not-integer-requires-2 : tie.Need-not-integer-requires-2
+not-integer-requires-2 : tie.Need-not_integer-requires-in_default
 not-integer-requires-2 c κs = search rules
 
 -- the suffix's fault, as `check_suffix` found it
-fault : (c : tie.After-check-suffix) → checked_of c.check-suffix.result ≡ suffix_fault (drop c.before.before.before.before.args.lit.end_number_part c.before.before.before.before.args.text.now)
-fault c = c.check-suffix.ensures ∙ rw part_to_end
+fault : (c : tie.After-check_suffix-checked) → checked_of c.check_suffix-checked.result ≡ suffix_fault (drop c.args.lit.end_number_part c.args.text.now)
+fault c = c.check_suffix-checked.ensures ∙ rw part_to_end
 
-returns-2 : tie.Need-returns-2
+returns-2 : tie.Need-returns-in_default
 unfolding after_number
 returns-2 c =
-    let b = c.before in
-    (rw (← fault b.before.before, b.enum_told.given.1) c.not-integer2.ensures.0, c.not-integer2.ensures.1)
+    (rw (← fault c.before.before, c.in_default.is) c.not_integer-in_default.ensures.0, c.not_integer-in_default.ensures.1)
 
-returns-3 : tie.Need-returns-3
+returns-3 : tie.Need-returns
 unfolding after_number
 returns-3 c =
-    let k = c.before.checked.given.0.0 in
-    (rw (← fault c.before.before.before, c.before.checked.given.1, ne_eqb (number_of k) 0 (λ e. omega (arith, number_positive k))), refl)
+    let k = c.in-Bad.kind in
+    (rw (← fault c.before, c.in-Bad.is, ne_eqb (number_of k) 0 (λ e. omega (arith, number_positive k))), refl)
 
 pub after_number_spec : {M : Type 1} → statement M
 after_number_spec =

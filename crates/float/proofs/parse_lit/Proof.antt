@@ -13,48 +13,47 @@ use borrow.Author.Rules.{rules}
 use Rattle.float.proofs.parse_lit.Statement.{statement}
 use Rattle.float.proofs.parse_lit.Tie as tie
 
-get-requires : tie.Need-get-requires
+get-requires : tie.Need-get-first-requires
 get-requires c κs = search rules
 
-enum-known-first : tie.Need-enum-known-first
+enum-known-first : tie.Need-enum_known-first
 enum-known-first c = search rules
 
-enum_told : tie.Need-enum-told
+enum_told : tie.Need-enum_told-1
 enum_told c = search rules
 
-returns : tie.Need-returns
-returns c = (read_nothing _ (sym c.before.before.get.ensures ∙ c.enum_told.given.1), refl)
+returns : tie.Need-returns-in_default
+returns c = (read_nothing _ (sym c.get-first.ensures ∙ c.in_default.is), refl)
 
-is-decimal-requires : tie.Need-is-decimal-requires
+is-decimal-requires : tie.Need-is_decimal-requires
 is-decimal-requires c κs = search rules
 
-end-dec-digits-requires : tie.Need-end-dec-digits-requires
+end-dec-digits-requires : tie.Need-end_dec_digits-requires
 end-dec-digits-requires c κs = search rules
 
-after-integer-requires : tie.Need-after-integer-requires
+after-integer-requires : tie.Need-after_integer-requires
 after-integer-requires c κs =
-    let e = c.end-dec-digits.ensures in
+    let e = c.end_dec_digits.ensures in
     record {
       end = refl;
-      inside = rw e.end (run_le (digit 10) c.before.before.before.before.before.before.before.before.args.text.now);
+      inside = rw e.end (run_le (digit 10) c.args.text.now);
       count = e.count ∙ rw (← e.end, sub-zero);
     }
 
 -- the first byte decides
-by_byte : (c : tie.After-is-decimal) →
-    let s = c.before.before.before.before.before.before.args.text.now in
-    float_read s ≡ cond c.is-decimal.result (after_integer s (run (digit 10) s)) (refused 4 (between 0 1))
+by_byte : (c : tie.After-is_decimal) →
+    let s = c.args.text.now in
+    float_read s ≡ cond c.is_decimal.result (after_integer s (run (digit 10) s)) (refused 4 (between 0 1))
 by_byte c =
-    let f = c.before.before.first.given in
-    rw (read_byte _ f.0.0 (sym c.before.before.before.before.get.ensures ∙ f.1), c.is-decimal.ensures)
+    let f = c.first-1.given in
+    rw (read_byte _ f.0.0 (sym c.get-first.ensures ∙ f.1), c.is_decimal.ensures)
 
-returns-2 : tie.Need-returns-2
+returns-2 : tie.Need-returns-then-is_decimal
 returns-2 c =
-    let b = c.before.before in
-    (rw (by_byte b.before, b.if1.true, ← c.before.end-dec-digits.ensures.end) c.after-integer.ensures.0, c.after-integer.ensures.1)
+    (rw (by_byte c.before.before.before, c.if-is_decimal.true, ← c.end_dec_digits.ensures.end) c.after_integer.ensures.0, c.after_integer.ensures.1)
 
-returns-3 : tie.Need-returns-3
-returns-3 c = (rw (by_byte c.before, c.if1.false), refl)
+returns-3 : tie.Need-returns
+returns-3 c = (rw (by_byte c.before, c.if-is_decimal.false), refl)
 
 pub parse_lit_spec : {M : Type 1} → statement M
 parse_lit_spec =

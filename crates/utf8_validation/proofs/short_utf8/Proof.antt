@@ -12,51 +12,47 @@ use Rattle.utf8_validation.proofs.short_utf8.Statement.{statement}
 use Rattle.utf8_validation.proofs.short_utf8.Tie as tie
 
 -- the rest decides
-abbrev invariant_loop : tie.invariant-loop
+abbrev invariant_loop : tie.invariant-loop-at
 invariant_loop text at₀ at = is_utf8 (drop at text) ≡ is_utf8 text
 
-abbrev decreases_loop : tie.decreases-loop
+abbrev decreases_loop : tie.decreases-loop-at
 decreases_loop text at₀ at = length text - at
 
-is-ascii-requires : tie.Need-is-ascii-requires invariant_loop decreases_loop
+is-ascii-requires : tie.Need-is_ascii-requires invariant_loop decreases_loop
 is-ascii-requires c κs = search rules
 
-returns : tie.Need-returns invariant_loop decreases_loop
-returns c = ascii_utf8 c.before.before.before.args.text.now (sym c.before.is_ascii.ensures ∙ c.if1.true)
+returns : tie.Need-returns-then-is_ascii invariant_loop decreases_loop
+returns c = ascii_utf8 c.args.text.now (sym c.is_ascii.ensures ∙ c.if-is_ascii.true)
 
-loop-holds : tie.Need-loop-init invariant_loop decreases_loop
+loop-holds : tie.Need-loop-at-init invariant_loop decreases_loop
 loop-holds c = refl
 
-valid-len-requires : tie.Need-valid-len-requires invariant_loop decreases_loop
+valid-len-requires : tie.Need-valid_len-n-requires invariant_loop decreases_loop
 valid-len-requires c κs = search rules
 
-returns-2 : tie.Need-returns-2 invariant_loop decreases_loop
+returns-2 : tie.Need-returns-then-n-eq0 invariant_loop decreases_loop
 returns-2 c =
-    let v = c.before in
-    let b = v.before.before in
-    sym (is_utf8_bad b.before.before.before.before.args.text.now b.loop.at _ v.valid-len.ensures (search rules) c.if2.true) ∙ b.loop.invariant
+    sym (is_utf8_bad c.args.text.now c.loop-at.at _ c.valid_len-n.ensures (search rules) c.if-n-eq0.true) ∙ c.loop-at.invariant
 
 -- the character that a turn finds
-found : (c : tie.Else2 invariant_loop decreases_loop) →
-    let b = c.before.before.before in
-    let t = b.before.before.before.before.args.text.now in
-    let n = c.before.valid-len.result in
-    (0 < n) × (b.loop.at + n ≤ length t) × (is_utf8 (drop (b.loop.at + n) t) ≡ is_utf8 (drop b.loop.at t))
+found : (c : tie.Else-n-eq0 invariant_loop decreases_loop) →
+    let t = c.args.text.now in
+    let n = c.valid_len-n.result in
+    (0 < n) × (c.loop-at.at + n ≤ length t) × (is_utf8 (drop (c.loop-at.at + n) t) ≡ is_utf8 (drop c.loop-at.at t))
 found c =
-    let b = c.before.before.before in
-    is_utf8_char b.before.before.before.before.args.text.now b.loop.at _ c.before.valid-len.ensures c.if2.false
+    is_utf8_char c.args.text.now c.loop-at.at _ c.valid_len-n.ensures c.if-n-eq0.false
 
-add_at : tie.Need-overflow-add-at invariant_loop decreases_loop
+add_at : tie.Need-overflow_add-at invariant_loop decreases_loop
 add_at c = omega (arith, found c)
 
-loop-less : tie.Need-loop-smaller invariant_loop decreases_loop
+loop-less : tie.Need-loop-at-smaller invariant_loop decreases_loop
 loop-less c = omega (arith, found c)
 
-loop-again : tie.Need-loop-preserved invariant_loop decreases_loop
-loop-again c = (found c).2 ∙ c.before.before.before.loop.invariant
+loop-again : tie.Need-loop-at-preserved invariant_loop decreases_loop
+loop-again c = (found c).2 ∙ c.loop-at.invariant
 
-returns-3 : tie.Need-returns-3 invariant_loop decreases_loop
-returns-3 c = let b = c.before in sym (is_utf8_end b.before.before.before.before.args.text.now b.loop.at c.loop-test.false) ∙ b.loop.invariant
+returns-3 : tie.Need-returns invariant_loop decreases_loop
+returns-3 c = sym (is_utf8_end c.args.text.now c.loop-at.at c.loop-at-test.false) ∙ c.loop-at.invariant
 
 pub short_utf8_spec : {M : Type 1} → statement M
 short_utf8_spec =
