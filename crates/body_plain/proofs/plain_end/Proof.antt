@@ -12,46 +12,45 @@ use Rattle.body_plain.proofs.Blocks.{run_rest}
 use Rattle.body_plain.proofs.plain_end.Statement.{statement}
 use Rattle.body_plain.proofs.plain_end.Tie as tie
 
-abbrev stop : tie.After-block-end → tie.After-byte-run
+abbrev stop : tie.After-block_end → tie.After-byte_run-i
 stop c = c.before.before.before
 
 -- the run after the first bytes
-count : (c : tie.After-block-end) →
+count : (c : tie.After-block_end) →
     let b = stop c in
-    let a = b.before.before.before.args in
-    c.block-end.result ≡ run (plain_byte a.k) (drop b.byte-run.result a.s.now)
-count c = c.block-end.ensures ∙ rw part_to_end (omega arith)
+    let a = b.args in
+    c.block_end.result ≡ run (plain_byte a.k) (drop b.byte_run-i.result a.s.now)
+count c = c.block_end.ensures ∙ rw part_to_end (omega arith)
 
-clamped-end-requires : tie.Need-clamped-end-requires
+clamped-end-requires : tie.Need-clamped_end-stop-requires
 clamped-end-requires c κs = search rules
 
-byte-run-requires : tie.Need-byte-run-requires
+byte-run-requires : tie.Need-byte_run-i-requires
 byte-run-requires c κs = search rules
 
-returns : tie.Need-returns
+returns : tie.Need-returns-then-i-stop
 returns c = search rules
 
-sub-block-end : tie.Need-overflow-sub-block-end
+sub-block-end : tie.Need-slice_bounds-block_end-count
 sub-block-end c = search rules
 
-part-block-end-start : tie.Need-slice-bounds-block-end-start
+part-block-end-start : tie.Need-slice_bounds-block_end-start
 part-block-end-start c = search rules
 
-part-block-end-end : tie.Need-slice-bounds-block-end-end
+part-block-end-end : tie.Need-slice_bounds-block_end-end
 part-block-end-end c = search rules
 
-block-end-requires : tie.Need-block-end-requires
+block-end-requires : tie.Need-block_end-requires
 block-end-requires c κs = search rules
 
-add-result : tie.Need-overflow-add-result
+add-result : tie.Need-overflow_add-result
 add-result c =
     let b = stop c in
-    let e = b.before.before.before in
-    let a = e.args in
-    omega (arith, count c, run_rest _ _ _ _ _ b.byte-run.ensures, run_le (plain_byte a.k) (drop a.from a.s.now), length-drop a.from a.s.now, e.pre, e.good)
+    let a = b.args in
+    omega (arith, count c, run_rest _ _ _ _ _ b.byte_run-i.ensures, run_le (plain_byte a.k) (drop a.from a.s.now), length-drop a.from a.s.now, b.requires, b.well_formed)
 
-returns-2 : tie.Need-returns-2
-returns-2 c = omega (arith, count c, run_rest _ _ _ _ _ (stop c).byte-run.ensures)
+returns-2 : tie.Need-returns
+returns-2 c = omega (arith, count c, run_rest _ _ _ _ _ (stop c).byte_run-i.ensures)
 
 pub plain_end_spec : {M : Type 1} → statement M
 plain_end_spec =

@@ -10,65 +10,59 @@ use Rattle.escape.proofs.Escapes as laws
 use Rattle.escape_packed.proofs.packed.Statement.{statement}
 use Rattle.escape_packed.proofs.packed.Tie as tie
 
-no_letter : (c : tie.Else2) → simple_escape_of (get_or c.before.before.before.before.before.args.s.now 1 0) ≡ 0
-no_letter c = sym c.before.simple-escape.ensures ∙ c.if2.false
+no_letter : (c : tie.Else-l-ne0) → simple_escape_of (get_or c.args.s.now 1 0) ≡ 0
+no_letter c = sym c.simple_escape-l.ensures ∙ c.if-l-ne0.false
 
-returns : tie.Need-returns
-returns c = ap packed_escape (laws.too_short _ _ c.if1.true)
+returns : tie.Need-returns-then-s-lt2
+returns c = ap packed_escape (laws.too_short _ _ c.if-s-lt2.true)
 
-shared-slice-read-b : tie.Need-shared-slice-read-b
+shared-slice-read-b : tie.Need-bounds-s-1
 shared-slice-read-b c = search rules
 
-simple-escape-requires : tie.Need-simple-escape-requires
+simple-escape-requires : tie.Need-simple_escape-l-requires
 simple-escape-requires c κs = search rules
 
-packed-byte-requires : tie.Need-packed-byte-requires
+packed-byte-requires : tie.Need-packed_byte-requires
 packed-byte-requires c κs = search rules
 
-returns-2 : tie.Need-returns-2
+returns-2 : tie.Need-returns-then-l-ne0
 returns-2 c =
-    let b = c.before.before in
-    c.packed_byte.ensures ∙ ap packed_escape (laws.one_letter _ _ b.before.before.if1.false _ b.simple-escape.ensures c.before.if2.true)
+    c.packed_byte.ensures ∙ ap packed_escape (laws.one_letter _ _ c.if-s-lt2.false _ c.simple_escape-l.ensures c.if-l-ne0.true)
 
-packed-x-requires : tie.Need-packed-x-requires
+packed-x-requires : tie.Need-packed_x-requires
 packed-x-requires c κs = search rules
 
-returns-3 : tie.Need-returns-3
+returns-3 : tie.Need-returns-then-b-eq120
 returns-3 c =
-    let b = c.before.before in
-    c.packed-x.ensures
-    ∙ ap packed_escape (laws.is_x _ _ b.before.before.before.if1.false (no_letter b) (λ e. omega arith) c.before.if3.true)
+    c.packed_x.ensures
+    ∙ ap packed_escape (laws.is_x _ _ c.if-s-lt2.false (no_letter c.before.before) (λ e. omega arith) c.if-b-eq120.true)
 
-packed-u-requires : tie.Need-packed-u-requires
+packed-u-requires : tie.Need-packed_u-requires
 packed-u-requires c κs = search rules
 
-returns-4 : tie.Need-returns-4
+returns-4 : tie.Need-returns-then-b-eq117
 returns-4 c =
-    let b = c.before.before.before in
-    c.packed-u.ensures
-    ∙ ap packed_escape (laws.is_u _ _ b.before.before.before.if1.false (no_letter b) (λ e. omega arith) c.before.before.if3.false c.before.if4.true)
+    c.packed_u.ensures
+    ∙ ap packed_escape (laws.is_u _ _ c.if-s-lt2.false (no_letter c.before.before.before) (λ e. omega arith) c.if-b-eq120.false c.if-b-eq117.true)
 
-allow-nul-requires : tie.Need-allow-nul-requires
+allow-nul-requires : tie.Need-allow_nul-requires
 allow-nul-requires c κs = search rules
 
-packed-byte-requires-2 : tie.Need-packed-byte-requires-2
+packed-byte-requires-2 : tie.Need-packed_byte-requires-then-allow_nul
 packed-byte-requires-2 c κs = search rules
 
-returns-5 : tie.Need-returns-5
+returns-5 : tie.Need-returns-then-allow_nul
 returns-5 c =
-    let b = c.before.before.before.before.before.before in
-    c.packed-byte2.ensures
-    ∙ ap packed_escape (laws.nul _ _ b.before.before.before.if1.false (no_letter b) c.before.before.before.if5.true (sym c.before.before.allow-nul.ensures ∙ c.before.if6.true))
+    c.packed_byte-then-allow_nul.ensures
+    ∙ ap packed_escape (laws.nul _ _ c.if-s-lt2.false (no_letter c.before.before.before.before.before.before) c.if-b-eq48.true (sym c.allow_nul.ensures ∙ c.if-allow_nul.true))
 
-returns-6 : tie.Need-returns-6
+returns-6 : tie.Need-returns-else-allow_nul
 returns-6 c =
-    let b = c.before.before.before.before.before in
-    ap packed_escape (laws.nul_barred _ _ b.before.before.before.if1.false (no_letter b) c.before.before.if5.true (sym c.before.allow-nul.ensures ∙ c.if6.false))
+    ap packed_escape (laws.nul_barred _ _ c.if-s-lt2.false (no_letter c.before.before.before.before.before) c.if-b-eq48.true (sym c.allow_nul.ensures ∙ c.if-allow_nul.false))
 
-returns-7 : tie.Need-returns-7
+returns-7 : tie.Need-returns-else-b-eq48
 returns-7 c =
-    let b = c.before.before.before in
-    ap packed_escape (laws.unknown _ _ b.before.before.before.if1.false (no_letter b) c.if5.false c.before.before.if3.false c.before.if4.false)
+    ap packed_escape (laws.unknown _ _ c.if-s-lt2.false (no_letter c.before.before.before) c.if-b-eq48.false c.if-b-eq120.false c.if-b-eq117.false)
 
 pub packed_spec : {M : Type 1} → statement M
 packed_spec =

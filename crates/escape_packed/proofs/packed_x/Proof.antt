@@ -20,86 +20,84 @@ use Rattle.escape.proofs.Escapes as laws
 use Rattle.escape_packed.proofs.packed_x.Statement.{statement}
 use Rattle.escape_packed.proofs.packed_x.Tie as tie
 
-there : (c : tie.Else2) → is_boundary c.before.before.before.before.args.s.now 4 ≡ true
-there c = sym c.before.is-boundary.ensures ∙ not-false _ c.if2.false
+there : (c : tie.Else-not-whole) → is_boundary c.args.s.now 4 ≡ true
+there c = sym c.is_boundary-whole.ensures ∙ not-false _ c.if-not-whole.false-raw
 
 -- the two digits
-first : (c : tie.Else3) → hex_digit_of (get_or c.before.before.before.before.before.before.before.args.s.now 2 0) ≡ Value c.before.class_of.result
-first c = hex_value _ (omega (arith, c.before.class_of.ensures, c.if3.false)) ∙ ap Value (sym c.before.class_of.ensures)
+first : (c : tie.Else-a-gt15) → hex_digit_of (get_or c.args.s.now 2 0) ≡ Value c.class_of-a.result
+first c = hex_value _ (omega (arith, c.class_of-a.ensures, c.if-a-gt15.false)) ∙ ap Value (sym c.class_of-a.ensures)
 
-second : (c : tie.Else4) → hex_digit_of (get_or c.before.before.before.before.before.before.before.before.before.before.args.s.now 3 0) ≡ Value c.before.class-of2.result
-second c = hex_value _ (omega (arith, c.before.class-of2.ensures, c.if4.false)) ∙ ap Value (sym c.before.class-of2.ensures)
+second : (c : tie.Else-b-gt15) → hex_digit_of (get_or c.args.s.now 3 0) ≡ Value c.class_of-b.result
+second c = hex_value _ (omega (arith, c.class_of-b.ensures, c.if-b-gt15.false)) ∙ ap Value (sym c.class_of-b.ensures)
 
-abbrev v : tie.Else4 → ℕ
-v c = c.before.class-of2.result + 16 * c.before.before.before.before.class_of.result
+abbrev v : tie.Else-b-gt15 → ℕ
+v c = c.class_of-b.result + 16 * c.class_of-a.result
 
-read : (c : tie.Else4) → let a = c.before.before.before.before.before.before.before.before.before.before.args in x_byte a.k (v c) ≡ x_escape a.k a.s.now
+read : (c : tie.Else-b-gt15) → let a = c.args in x_byte a.k (v c) ≡ x_escape a.k a.s.now
 read c =
-    let f = c.before.before.before in
-    laws.x_value _ _ (there f.before.before.before) _ (first f) _ (second c)
+    laws.x_value _ _ (there c.before.before.before.before.before.before) _ (first c.before.before.before) _ (second c)
 
 -- no test has refused their number
-not_high : (c : tie.Joined5) → (not (byte_escapes c.before.before.before.before.before.before.before.before.before.before.before.args.k) && ltb 127 (v c.before)) ≡ false
-not_high c = ⊎_elim (λ w. rw (sym w.1.ensures ∙ not-false _ w.2.left)) (λ w. rw (le-ltb _ _ w.left, and-false)) c.if5.branch
+not_high : (c : tie.Joined-v-gt127) → (not (byte_escapes c.args.k) && ltb 127 (v c.before)) ≡ false
+not_high c = ⊎_elim (λ w. rw (sym w.byte_escapes.ensures ∙ not-false _ w.if-not-byte_escapes.false-raw)) (λ w. rw (le-ltb _ _ w.if-v-gt127.false, and-false)) c.if-v-gt127.branch-raw
 
-not_nul : (c : tie.Joined7) → (not (allow_nul c.before.before.before.before.before.before.before.before.before.before.before.before.args.k) && eqb (v c.before.before) 0) ≡ false
-not_nul c = ⊎_elim (λ w. rw (sym w.1.ensures ∙ not-false _ w.2.left)) (λ w. rw (ne_eqb _ _ w.left, and-false)) c.if7.branch
+not_nul : (c : tie.Joined-v-eq0) → (not (allow_nul c.args.k) && eqb (v c.before.before) 0) ≡ false
+not_nul c = ⊎_elim (λ w. rw (sym w.allow_nul.ensures ∙ not-false _ w.if-not-allow_nul.false-raw)) (λ w. rw (ne_eqb _ _ w.if-v-eq0.false, and-false)) c.if-v-eq0.branch-raw
 
-returns : tie.Need-returns
-returns c = ap packed_escape (laws.x_short _ _ c.if1.true)
+returns : tie.Need-returns-then-s-lt4
+returns c = ap packed_escape (laws.x_short _ _ c.if-s-lt4.true)
 
-is-boundary-requires : tie.Need-is-boundary-requires
+is-boundary-requires : tie.Need-is_boundary-whole-requires
 is-boundary-requires c κs = search rules
 
-returns-2 : tie.Need-returns-2
-returns-2 c = ap packed_escape (laws.x_cut _ _ (sym c.before.is-boundary.ensures ∙ not-true _ c.if2.true))
+returns-2 : tie.Need-returns-then-not-whole
+returns-2 c = ap packed_escape (laws.x_cut _ _ (sym c.is_boundary-whole.ensures ∙ not-true _ c.if-not-whole.true-raw))
 
-shared-slice-read-class-of : tie.Need-shared-slice-read-class-of
+shared-slice-read-class-of : tie.Need-bounds-s-2
 shared-slice-read-class-of c = search rules
 
-class-of-requires : tie.Need-class-of-requires
+class-of-requires : tie.Need-class_of-a-requires
 class-of-requires c κs = search rules
 
-returns-3 : tie.Need-returns-3
-returns-3 c = ap packed_escape (laws.x_first _ _ (there c.before.before.before) (no_value _ (omega (arith, c.before.class_of.ensures, c.if3.true))))
+returns-3 : tie.Need-returns-then-a-gt15
+returns-3 c = ap packed_escape (laws.x_first _ _ (there c.before.before.before) (no_value _ (omega (arith, c.class_of-a.ensures, c.if-a-gt15.true))))
 
-shared-slice-read-class-of-2 : tie.Need-shared-slice-read-class-of-2
+shared-slice-read-class-of-2 : tie.Need-bounds-s-3
 shared-slice-read-class-of-2 c = search rules
 
-class-of-requires-2 : tie.Need-class-of-requires-2
+class-of-requires-2 : tie.Need-class_of-b-requires
 class-of-requires-2 c κs = search rules
 
-returns-4 : tie.Need-returns-4
+returns-4 : tie.Need-returns-then-b-gt15
 returns-4 c =
-    let f = c.before.before.before in
-    ap packed_escape (laws.x_second _ _ (there f.before.before.before) _ (first f) (no_value _ (omega (arith, c.before.class-of2.ensures, c.if4.true))))
+    ap packed_escape (laws.x_second _ _ (there c.before.before.before.before.before.before) _ (first c.before.before.before) (no_value _ (omega (arith, c.class_of-b.ensures, c.if-b-gt15.true))))
 
-mul-v : tie.Need-overflow-mul-v
+mul-v : tie.Need-overflow_mul-v
 mul-v c = search rules
 
-add-v : tie.Need-overflow-add-v
+add-v : tie.Need-overflow_add-v
 add-v c = search rules
 
-byte-escapes-requires : tie.Need-byte-escapes-requires
+byte-escapes-requires : tie.Need-byte_escapes-requires
 byte-escapes-requires c κs = search rules
 
-returns-5 : tie.Need-returns-5
+returns-5 : tie.Need-returns-then-not-byte_escapes
 unfolding x_byte
-returns-5 c = rw (← read c.before.before.before, sym c.before.byte-escapes.ensures ∙ not-true _ c.if6.true, lt-ltb _ _ c.before.before.if5.true)
+returns-5 c = rw (← read c.before.before.before, sym c.byte_escapes.ensures ∙ not-true _ c.if-not-byte_escapes.true-raw, lt-ltb _ _ c.if-v-gt127.true)
 
-allow-nul-requires : tie.Need-allow-nul-requires
+allow-nul-requires : tie.Need-allow_nul-requires
 allow-nul-requires c κs = search rules
 
-returns-6 : tie.Need-returns-6
+returns-6 : tie.Need-returns-then-not-allow_nul
 unfolding x_byte
-returns-6 c = let j = c.before.before.before in rw (← read j.before, not_high j, sym c.before.allow-nul.ensures ∙ not-true _ c.if8.true, eq-eqb _ _ c.before.before.if7.true)
+returns-6 c = rw (← read c.before.before.before.before, not_high c.before.before.before, sym c.allow_nul.ensures ∙ not-true _ c.if-not-allow_nul.true-raw, eq-eqb _ _ c.if-v-eq0.true)
 
-packed-byte-requires : tie.Need-packed-byte-requires
+packed-byte-requires : tie.Need-packed_byte-requires
 packed-byte-requires c κs = search rules
 
-returns-7 : tie.Need-returns-7
+returns-7 : tie.Need-returns
 unfolding x_byte
-returns-7 c = let j = c.before in c.packed_byte.ensures ∙ rw (← read j.before.before, not_high j.before, not_nul j)
+returns-7 c = c.packed_byte.ensures ∙ rw (← read c.before.before.before, not_high c.before.before, not_nul c.before)
 
 pub packed_x_spec : {M : Type 1} → statement M
 packed_x_spec =

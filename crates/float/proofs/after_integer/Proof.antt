@@ -34,7 +34,7 @@ past_fraction : (c : tie.Joined-i-f) →
     after_integer a.text.now a.whole.end ≡ after_fraction a.text.now a.whole.end c.fraction_end-fraction.result.end
 past_fraction c =
     let e = c.fraction_end-fraction.ensures.end in
-    ⊎_elim (λ x. rw (by_fraction, ← e, lt-ltb _ _ x.0.taken, ← x.1.ensures, x.2.left)) (λ x. rw (by_fraction, ← e, le-ltb _ _ x.left)) c.if-i-f.branch
+    ⊎_elim (λ x. rw (by_fraction, ← e, lt-ltb _ _ x.if-i-f.true, ← x.bad_fraction.ensures, x.if-bad_fraction.false)) (λ x. rw (by_fraction, ← e, le-ltb _ _ x.if-i-f.false)) c.if-i-f.branch-raw
 
 exponent-end-requires : tie.Need-exponent_end-exponent-requires
 exponent-end-requires c κs = c.fraction_end-fraction.ensures.inside
@@ -51,7 +51,7 @@ past_exponent : (c : tie.Joined-f-end) →
 past_exponent c =
     let e = c.exponent_end-exponent.ensures in
     past_fraction c.before.before ∙
-    ⊎_elim (λ x. rw (by_exponent, ← e.end, lt-ltb _ _ x.0.taken, some _ _ _ e x.0.taken x.2.left)) (λ x. rw (by_exponent, ← e.end, le-ltb _ _ x.left)) c.if-f-end.branch
+    ⊎_elim (λ x. rw (by_exponent, ← e.end, lt-ltb _ _ x.if-f-end.true, some _ _ _ e x.if-f-end.true x.if-exponent-eq0.false)) (λ x. rw (by_exponent, ← e.end, le-ltb _ _ x.if-f-end.false)) c.if-f-end.branch-raw
 
 after-number-requires : tie.Need-after_number-requires
 after-number-requires c κs = c.exponent_end-exponent.ensures.inside

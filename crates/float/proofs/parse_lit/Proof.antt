@@ -45,8 +45,7 @@ by_byte : (c : tie.After-is_decimal) →
     let s = c.args.text.now in
     float_read s ≡ cond c.is_decimal.result (after_integer s (run (digit 10) s)) (refused 4 (between 0 1))
 by_byte c =
-    let f = c.first-1.given in
-    rw (read_byte _ f.0.0 (sym c.get-first.ensures ∙ f.1), c.is_decimal.ensures)
+    rw (read_byte _ c.in-At.b (sym c.get-first.ensures ∙ c.in-At.is), c.is_decimal.ensures)
 
 returns-2 : tie.Need-returns-then-is_decimal
 returns-2 c =
