@@ -16,47 +16,47 @@ use Rattle.body.proofs.after_body.Statement.{statement}
 use Rattle.body.proofs.after_body.Tie as tie
 
 -- what closes the body ends in the text
-closed : (c : tie.After-enum-told) → c.before.before.before.before.args.offset + c.before.before.before.before.args.m.at + c.before.before.before.before.args.q ≤ length c.before.before.before.before.args.text.now
+closed : (c : tie.In_default) → c.args.offset + c.args.m.at + c.args.q ≤ length c.args.text.now
 closed c =
-    let a = c.before.before.before.before.args in
+    let a = c.args in
     let at = a.offset + a.m.at in
-    let f = c.before.before.before.before.requires.1 in
-    omega (arith, f.place, subst (λ (x : Ending). EndFits a.q (length a.text.now - at) (end_of x)) c.enum_told.given.1 f.end)
+    let f = c.requires.1 in
+    omega (arith, f.place, subst (λ (x : Ending). EndFits a.q (length a.text.now - at) (end_of x)) c.in_default.is f.end)
 
-add_at : tie.Need-overflow-add-at
+add_at : tie.Need-overflow_add-at
 add_at c = search rules
 
-enum-known-end : tie.Need-enum-known-end
+enum-known-end : tie.Need-enum_known-end
 enum-known-end c = search rules
 
-enum_told : tie.Need-enum-told
+enum_told : tie.Need-enum_told-1
 enum_told c = search rules
 
-add-t10 : tie.Need-overflow-add-t10
-add-t10 c = omega (arith, closed c, c.before.before.before.before.well-formed)
+add-t10 : tie.Need-overflow_add-at-in_default
+add-t10 c = omega (arith, closed c, c.well_formed)
 
-check-end-requires : tie.Need-check-end-requires
+check-end-requires : tie.Need-check_end-requires
 check-end-requires c κs = closed c
 
-returns : tie.Need-returns
+returns : tie.Need-returns-in_default
 returns c =
-    let a = c.before.before.before.before.before.args in
-    c.check-end.ensures
-    ∙ ap (λ (q : ℕ). suffixed a.text.now (hashes_of a.hashes) (a.offset + a.m.at + q) a.m.len) c.before.before.before.before.before.requires.0
-    ∙ ap (after_end a.text.now (hashes_of a.hashes) (a.offset + a.m.at) a.m.len) (sym (ap end_of c.before.enum_told.given.1))
+    let a = c.args in
+    c.check_end.ensures
+    ∙ ap (λ (q : ℕ). suffixed a.text.now (hashes_of a.hashes) (a.offset + a.m.at + q) a.m.len) c.requires.0
+    ∙ ap (after_end a.text.now (hashes_of a.hashes) (a.offset + a.m.at) a.m.len) (sym (ap end_of c.in_default.is))
 
-offset-span-requires : tie.Need-offset-span-requires
+offset-span-requires : tie.Need-offset_span-requires
 offset-span-requires c κs =
-    let a = c.before.before.before.before.before.args in
+    let a = c.args in
     let at = a.offset + a.m.at in
-    strings.ends_up (length a.text.now - at) (18446744073709551615 - at) (place_of c.before.end.given.0.1.0) (omega (arith, c.before.before.before.before.before.well-formed))
-    (subst (λ (x : Ending). EndFits a.q (length a.text.now - at) (end_of x)) c.before.end.given.1 c.before.before.before.before.before.requires.1.end)
+    strings.ends_up (length a.text.now - at) (18446744073709551615 - at) (place_of c.in-Bad.span) (omega (arith, c.well_formed))
+    (subst (λ (x : Ending). EndFits a.q (length a.text.now - at) (end_of x)) c.in-Bad.is c.requires.1.end)
 
-returns-2 : tie.Need-returns-2
+returns-2 : tie.Need-returns
 returns-2 c =
-    let a = c.before.before.before.before.before.before.args in
-    ap (refused (number_of c.before.before.end.given.0.0)) c.offset-span.ensures
-    ∙ ap (after_end a.text.now (hashes_of a.hashes) (a.offset + a.m.at) a.m.len) (sym (ap end_of c.before.before.end.given.1))
+    let a = c.args in
+    ap (refused (number_of c.in-Bad.kind)) c.offset_span.ensures
+    ∙ ap (after_end a.text.now (hashes_of a.hashes) (a.offset + a.m.at) a.m.len) (sym (ap end_of c.in-Bad.is))
 
 pub after_body_spec : {M : Type 1} → statement M
 after_body_spec =

@@ -11,26 +11,26 @@ use borrow.Author.Rules.{rules}
 use Rattle.body.proofs.unescape_string.Statement.{statement}
 use Rattle.body.proofs.unescape_string.Tie as tie
 
-is : (c : tie.After-measure) → Measures (body c.before.before.before.args.k (drop c.before.before.before.args.offset c.before.before.before.args.text.now)) c.measure.result
-is c = rw part_to_end at c.measure.ensures
+is : (c : tie.After-measure-m) → Measures (body c.args.k (drop c.args.offset c.args.text.now)) c.measure-m.result
+is c = rw part_to_end at c.measure-m.ensures
 
-sub-measure : tie.Need-overflow-sub-measure
+sub-measure : tie.Need-slice_bounds-measure-count
 sub-measure c = search rules
 
-part-measure-start : tie.Need-slice-bounds-measure-start
+part-measure-start : tie.Need-slice_bounds-measure-start
 part-measure-start c = search rules
 
-part-measure-end : tie.Need-slice-bounds-measure-end
+part-measure-end : tie.Need-slice_bounds-measure-end
 part-measure-end c = search rules
 
-measure-requires : tie.Need-measure-requires
+measure-requires : tie.Need-measure-m-requires
 measure-requires c κs = search rules
 
-after-body-requires : tie.Need-after-body-requires
-after-body-requires c κs = (refl, strings.fitting (step_of c.before.before.before.args.k) 1 (step_in _) _ _ c.before.before.before.requires.0 _ (is c))
+after-body-requires : tie.Need-after_body-requires
+after-body-requires c κs = (refl, strings.fitting (step_of c.args.k) 1 (step_in _) _ _ c.requires.0 _ (is c))
 
 returns : tie.Need-returns
-returns c = c.after-body.ensures ∙ strings.decreases _ _ _ _ _ (is c.before) ∙ strings.string_is _ _ _
+returns c = c.after_body.ensures ∙ strings.measured _ _ _ _ _ (is c.before) ∙ strings.string_is _ _ _
 
 pub unescape_string_spec : {M : Type 1} → statement M
 unescape_string_spec =
