@@ -18,56 +18,55 @@ use borrow.Author.Rules.{rules}
 use Rattle.character.proofs.closed.Statement.{statement}
 use Rattle.character.proofs.closed.Tie as tie
 
-byte-at-requires : tie.Need-byte-at-requires
+byte-at-requires : tie.Need-byte_at-requires
 byte-at-requires c κs = search rules
 
-add-suffixed : tie.Need-overflow-add-suffixed
+add-suffixed : tie.Need-overflow_add-at
 add-suffixed c = search rules
 
 suffixed-requires : tie.Need-suffixed-requires
-suffixed-requires c κs = let a = c.before.before.before.args in
-    omega (arith, quote_there a.text.now a.at (sym c.before.byte_at.ensures ∙ c.if1.true))
+suffixed-requires c κs = let a = c.args in
+    omega (arith, quote_there a.text.now a.at (sym c.byte_at.ensures ∙ c.if-byte_at-eq39.true))
 
-returns : tie.Need-returns
+returns : tie.Need-returns-then-byte_at-eq39
 unfolding closed_at
-returns c = rw (eq-eqb _ 39 (sym c.before.before.byte_at.ensures ∙ c.before.if1.true)) c.suffixed.ensures
+returns c = rw (eq-eqb _ 39 (sym c.byte_at.ensures ∙ c.if-byte_at-eq39.true)) c.suffixed.ensures
 
-sub-rest : tie.Need-overflow-sub-rest
+sub-rest : tie.Need-slice_bounds-rest-count
 sub-rest c = search rules
 
-part-rest-start : tie.Need-slice-bounds-rest-start
+part-rest-start : tie.Need-slice_bounds-rest-start
 part-rest-start c = search rules
 
-part-rest-end : tie.Need-slice-bounds-rest-end
+part-rest-end : tie.Need-slice_bounds-rest-end
 part-rest-end c = search rules
 
-run-len-requires : tie.Need-run-len-requires
+run-len-requires : tie.Need-run_len-requires
 run-len-requires c κs = search rules
 
 -- where no quote stands at once, the run to the next decides
-by_rest : (c : tie.After-run-len) →
-    let a = c.before.before.before.before.before.args in
+by_rest : (c : tie.After-run_len) →
+    let a = c.args in
     let s = a.text.now in
     closed_at a.q s a.at a.value
     ≡ cond (eqb c.run_len.result (length (take (length s - a.at) (drop a.at s)))) (refused (unterminated a.q) none) (refused (overlong a.q) none)
 unfolding closed_at
 by_rest c =
-    let b = c.before.before in
-    let a = b.before.before.before.args in
+    let a = c.args in
     let n : c.run_len.result ≡ run (except 39) (drop a.at a.text.now) = c.run_len.ensures ∙ rw part_to_end in
-    rw (ne_eqb _ 39 (λ e. b.if1.false (b.before.byte_at.ensures ∙ e)), part_to_end, n)
+    rw (ne_eqb _ 39 (λ e. c.if-byte_at-eq39.false (c.byte_at.ensures ∙ e)), part_to_end, n)
 
 unterminated-requires : tie.Need-unterminated-requires
 unterminated-requires c κs = search rules
 
-returns-2 : tie.Need-returns-2
-returns-2 c = rw (by_rest c.before.before, eq-eqb _ _ c.before.if2.true, c.unterminated.ensures)
+returns-2 : tie.Need-returns-then-run_len-rest
+returns-2 c = rw (by_rest c.before.before, eq-eqb _ _ c.if-run_len-rest.true, c.unterminated.ensures)
 
 overlong-requires : tie.Need-overlong-requires
 overlong-requires c κs = search rules
 
-returns-3 : tie.Need-returns-3
-returns-3 c = rw (by_rest c.before.before, ne_eqb _ _ c.before.if2.false, c.overlong.ensures)
+returns-3 : tie.Need-returns
+returns-3 c = rw (by_rest c.before.before, ne_eqb _ _ c.if-run_len-rest.false, c.overlong.ensures)
 
 pub closed_spec : {M : Type 1} → statement M
 closed_spec =

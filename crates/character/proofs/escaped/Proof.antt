@@ -14,59 +14,57 @@ use borrow.Author.Rules.{rules}
 use Rattle.character.proofs.escaped.Statement.{statement}
 use Rattle.character.proofs.escaped.Tie as tie
 
-sub-unescape : tie.Need-overflow-sub-unescape
+sub-unescape : tie.Need-slice_bounds-unescape-count
 sub-unescape c = search rules
 
-part-unescape-start : tie.Need-slice-bounds-unescape-start
+part-unescape-start : tie.Need-slice_bounds-unescape-start
 part-unescape-start c = search rules
 
-part-unescape-end : tie.Need-slice-bounds-unescape-end
+part-unescape-end : tie.Need-slice_bounds-unescape-end
 part-unescape-end c = search rules
 
 allowed-requires : tie.Need-allowed-requires
 allowed-requires c κs = search rules
 
-unescape-requires : tie.Need-unescape-requires
+unescape-requires : tie.Need-unescape-found-requires
 unescape-requires c κs = search rules
 
 -- the escape, as `unescape` found it
-by_escape : (c : tie.After-unescape) →
-    let a = c.before.before.before.before.args in
-    escaped_of c.unescape.result ≡ escape_of (allowed_in a.q) (drop a.at a.text.now)
+by_escape : (c : tie.After-unescape-found) →
+    let a = c.args in
+    escaped_of c.unescape-found.result ≡ escape_of (allowed_in a.q) (drop a.at a.text.now)
 by_escape c =
-    let a = c.before.before.before.before.args in
-    c.unescape.ensures
-    ∙ ap (λ (k : Allowed). escape_of k (take (length a.text.now - a.at) (drop a.at a.text.now))) c.before.allowed.ensures
+    let a = c.args in
+    c.unescape-found.ensures
+    ∙ ap (λ (k : Allowed). escape_of k (take (length a.text.now - a.at) (drop a.at a.text.now))) c.allowed.ensures
     ∙ ap (escape_of (allowed_in a.q)) (part_to_end a.at a.text.now)
 
-escaped_is : (c : tie.After-unescape) →
-    let a = c.before.before.before.before.args in
-    escaped_at a.q a.text.now a.at ≡ escaped_by a.at (escaped_of c.unescape.result)
+escaped_is : (c : tie.After-unescape-found) →
+    let a = c.args in
+    escaped_at a.q a.text.now a.at ≡ escaped_by a.at (escaped_of c.unescape-found.result)
 unfolding escaped_at
 escaped_is c = rw (← by_escape c)
 
-enum-known-found : tie.Need-enum-known-found
+enum-known-found : tie.Need-enum_known-found
 enum-known-found c = search rules
 
-enum_told : tie.Need-enum-told
+enum_told : tie.Need-enum_told-1
 enum_told c = search rules
 
-refused-escape-requires : tie.Need-refused-escape-requires
-refused-escape-requires c κs = let b = c.before.before in
-    let known = ap escaped_of c.enum_told.given.1 in
-    let a = b.before.before.before.before.args in
+refused-escape-requires : tie.Need-refused_escape-requires
+refused-escape-requires c κs = let known = ap escaped_of c.in_default.is in
+    let a = c.args in
     subst (FaultEnds (18446744073709551615 - a.at)) (sym known)
-    (escape_span _ _ _ b.before.before.before.before.requires 18446744073709551615 _ _ (sym known ∙ by_escape b) (omega arith))
+    (escape_span _ _ _ c.requires 18446744073709551615 _ _ (sym known ∙ by_escape c.before) (omega arith))
 
-returns : tie.Need-returns
-returns c = c.refused-escape.ensures ∙ sym (escaped_is c.before.before.before)
+returns : tie.Need-returns-in_default
+returns c = c.refused_escape.ensures ∙ sym (escaped_is c.before.before)
 
 scalar-requires : tie.Need-scalar-requires
 scalar-requires c κs = search rules
 
-returns-2 : tie.Need-returns-2
-returns-2 c = let b = c.before.before in
-    rw (escaped_is b.before.before, b.found.given.1, c.scalar.ensures)
+returns-2 : tie.Need-returns
+returns-2 c = rw (escaped_is c.before.before, c.in-Value.is, c.scalar.ensures)
 
 pub escaped_spec : {M : Type 1} → statement M
 escaped_spec =

@@ -11,59 +11,57 @@ use borrow.Author.Rules.{rules}
 use Rattle.character.proofs.parse.Statement.{statement}
 use Rattle.character.proofs.parse.Tie as tie
 
-perr-nowhere-requires : tie.Need-perr-nowhere-requires
+perr-nowhere-requires : tie.Need-perr_nowhere-requires
 perr-nowhere-requires c κs = search rules
 
-returns : tie.Need-returns
-returns c = let a = c.before.before.before.args in
-    c.perr-nowhere.ensures ∙ read_none a.q a.text.now c.before.if1.true
+returns : tie.Need-returns-then-text-eq0
+returns c = let a = c.args in
+    c.perr_nowhere.ensures ∙ read_none a.q a.text.now c.if-text-eq0.true
 
 opens-requires : tie.Need-opens-requires
 opens-requires c κs = search rules
 
 -- the first bytes decide
 by_start : (c : tie.After-opens) →
-    let a = c.before.before.before.args in
+    let a = c.args in
     read_by a.q a.text.now ≡ cond c.opens.result (single_at a.q a.text.now) (start_fault a.q)
 by_start c =
-    let a = c.before.before.before.args in
-    read_some a.q a.text.now c.before.if1.false ∙ rw (← c.opens.ensures)
+    let a = c.args in
+    read_some a.q a.text.now c.if-text-eq0.false ∙ rw (← c.opens.ensures)
 
-refused-start-requires : tie.Need-refused-start-requires
+refused-start-requires : tie.Need-refused_start-requires
 refused-start-requires c κs = search rules
 
-returns-2 : tie.Need-returns-2
-returns-2 c = rw (by_start c.before.before, not-true c.before.before.opens.result c.before.if2.true) c.refused-start.ensures
+returns-2 : tie.Need-returns-then-not-opens
+returns-2 c = rw (by_start c.before.before, not-true c.opens.result c.if-not-opens.true-raw) c.refused_start.ensures
 
-parse-impl-requires : tie.Need-parse-impl-requires
+parse-impl-requires : tie.Need-parse_impl-lit-requires
 parse-impl-requires c κs = search rules
 
 -- after the quote
-by_single : (c : tie.After-parse-impl) →
-    let a = c.before.before.before.before.before.args in
-    read_by a.q a.text.now ≡ single_of a.q c.parse-impl.result
-by_single c = rw (by_start c.before.before, not-false c.before.before.opens.result c.before.if2.false, c.parse-impl.ensures)
+by_single : (c : tie.After-parse_impl-lit) →
+    let a = c.args in
+    read_by a.q a.text.now ≡ single_of a.q c.parse_impl-lit.result
+by_single c = rw (by_start c.before.before, not-false c.opens.result c.if-not-opens.false-raw, c.parse_impl-lit.ensures)
 
-enum-known-lit : tie.Need-enum-known-lit
+enum-known-lit : tie.Need-enum_known-lit
 enum-known-lit c = search rules
 
-enum_told : tie.Need-enum-told
+enum_told : tie.Need-enum_told-1
 enum_told c = search rules
 
 refusal-requires : tie.Need-refusal-requires
-refusal-requires c κs = subst IsRefused (sym c.enum_told.given.1) tt
+refusal-requires c κs = subst IsRefused (sym c.in_default.is) tt
 
-returns-3 : tie.Need-returns-3
-returns-3 c = c.refusal.ensures _ ∙ sym (by_single c.before.before.before)
+returns-3 : tie.Need-returns-in_default
+returns-3 c = c.refusal.ensures _ ∙ sym (by_single c.before.before)
 
 reading-requires : tie.Need-reading-requires
-reading-requires c κs = let b = c.before.before.before in
-    let a = b.before.before.before.before.before.args in
-    value_fits a.q a.text.now (by_single b ∙ ap (single_of a.q) c.before.lit.given.1)
+reading-requires c κs = let a = c.args in
+    value_fits a.q a.text.now (by_single c.before ∙ ap (single_of a.q) c.in-Value.is)
 
-returns-4 : tie.Need-returns-4
-returns-4 c = let b = c.before.before in
-    rw (by_single b.before.before, b.lit.given.1) c.reading.ensures
+returns-4 : tie.Need-returns
+returns-4 c = rw (by_single c.before.before, c.in-Value.is) c.reading.ensures
 
 pub parse_spec : {M : Type 1} → statement M
 parse_spec =

@@ -15,48 +15,48 @@ use borrow.Author.Rules.{rules}
 use Rattle.character.proofs.suffixed.Statement.{statement}
 use Rattle.character.proofs.suffixed.Tie as tie
 
-returns : tie.Need-returns
+returns : tie.Need-returns-then-start-text
 unfolding suffixed_at
 returns c =
-    let a = c.before.before.args in
-    rw (no_suffix a.text.now a.start c.if1.true)
+    let a = c.args in
+    rw (no_suffix a.text.now a.start c.if-start-text.true)
 
-sub-check-suffix : tie.Need-overflow-sub-check-suffix
+sub-check-suffix : tie.Need-slice_bounds-check_suffix-count
 sub-check-suffix c = search rules
 
-part-check-suffix-start : tie.Need-slice-bounds-check-suffix-start
+part-check-suffix-start : tie.Need-slice_bounds-check_suffix-start
 part-check-suffix-start c = search rules
 
-part-check-suffix-end : tie.Need-slice-bounds-check-suffix-end
+part-check-suffix-end : tie.Need-slice_bounds-check_suffix-end
 part-check-suffix-end c = search rules
 
-check-suffix-requires : tie.Need-check-suffix-requires
+check-suffix-requires : tie.Need-check_suffix-checked-requires
 check-suffix-requires c κs = search rules
 
-enum-known-checked : tie.Need-enum-known-checked
+enum-known-checked : tie.Need-enum_known-checked
 enum-known-checked c = search rules
 
-enum_told : tie.Need-enum-told
+enum_told : tie.Need-enum_told-1
 enum_told c = search rules
 
 -- the suffix's fault, as `check_suffix` found it
-fault : (c : tie.After-check-suffix) →
-    let a = c.before.before.before.before.args in
-    checked_of c.check-suffix.result ≡ suffix_fault (drop a.start a.text.now)
-fault c = c.check-suffix.ensures ∙ rw part_to_end
+fault : (c : tie.After-check_suffix-checked) →
+    let a = c.args in
+    checked_of c.check_suffix-checked.result ≡ suffix_fault (drop a.start a.text.now)
+fault c = c.check_suffix-checked.ensures ∙ rw part_to_end
 
-returns-2 : tie.Need-returns-2
+returns-2 : tie.Need-returns-in_default
 unfolding suffixed_at
-returns-2 c = rw (← fault c.before.before, c.enum_told.given.1)
+returns-2 c = rw (← fault c.before, c.in_default.is)
 
-add-t7 : tie.Need-overflow-add-t7
+add-t7 : tie.Need-overflow_add-result
 add-t7 c = search rules
 
-returns-3 : tie.Need-returns-3
+returns-3 : tie.Need-returns
 unfolding suffixed_at
 returns-3 c =
-    let k = c.before.checked.given.0.0 in
-    rw (← fault c.before.before.before, c.before.checked.given.1, ne_eqb (number_of k) 0 (λ e. omega (arith, number_positive k)))
+    let k = c.in-Bad.kind in
+    rw (← fault c.before, c.in-Bad.is, ne_eqb (number_of k) 0 (λ e. omega (arith, number_positive k)))
 
 pub suffixed_spec : {M : Type 1} → statement M
 suffixed_spec =

@@ -11,14 +11,14 @@ high-len-requires : tie.Need-high-len-requires
 high-len-requires c κs = search rules
 
 returns : tie.Need-returns
-returns c = styles.decreases _ _ _ _ (c.high-len.ensures ∙ sym (ap length (styles.is_high _ _ _ c.before.if1.true)))
+returns c = styles.measured _ _ _ _ (c.high-len.ensures ∙ sym (ap length (styles.is_high _ _ _ c.before.if1.true)))
 
 escape-letter-requires : tie.Need-escape-letter-requires
 escape-letter-requires c κs = search rules
 
 returns-2 : tie.Need-returns-2
 returns-2 c =
-    styles.decreases _ _ _ _
+    styles.measured _ _ _ _
     (sym (ap length (styles.is_letter _ _ _ _ c.before.before.if1.false c.before.escape-letter.ensures c.if2.true)))
 
 is-printable-requires : tie.Need-is-printable-requires
@@ -27,14 +27,14 @@ is-printable-requires c κs = search rules
 returns-3 : tie.Need-returns-3
 returns-3 c =
     let e = c.before.before in
-    styles.decreases _ _ _ _
+    styles.measured _ _ _ _
     (sym (ap length (styles.is_plain _ _ _ e.before.before.if1.false (sym e.before.escape-letter.ensures ∙ e.if2.false)
     (sym c.before.is-printable.ensures ∙ c.if3.true))))
 
 returns-4 : tie.Need-returns-4
 returns-4 c =
     let e = c.before.before in
-    styles.decreases _ _ _ _
+    styles.measured _ _ _ _
     (sym (ap length (styles.is_x _ _ _ e.before.before.if1.false (sym e.before.escape-letter.ensures ∙ e.if2.false)
     (sym c.before.is-printable.ensures ∙ c.if3.false)) ∙ styles.x_length _))
 

@@ -9,34 +9,34 @@ use borrow.Author.Rules.{rules}
 use Rattle.integer_value.proofs.value_of.Statement.{statement}
 use Rattle.integer_value.proofs.value_of.Tie as tie
 
-sub-number-within : tie.Need-overflow-sub-number-within
+sub-number-within : tie.Need-slice_bounds-number_within-count
 sub-number-within c = search rules
 
-part-number-within-start : tie.Need-slice-bounds-number-within-start
+part-number-within-start : tie.Need-slice_bounds-number_within-start
 part-number-within-start c = search rules
 
-part-number-within-end : tie.Need-slice-bounds-number-within-end
+part-number-within-end : tie.Need-slice_bounds-number_within-end
 part-number-within-end c = search rules
 
-number-within-requires : tie.Need-number-within-requires
+number-within-requires : tie.Need-number_within-found-requires
 number-within-requires c κs = search rules
 
-enum-known-found : tie.Need-enum-known-found
+enum-known-found : tie.Need-enum_known-found
 enum-known-found c = search rules
 
-enum_told : tie.Need-enum-told
+enum_told : tie.Need-enum_told-1
 enum_told c = search rules
 
-valued : (c : tie.After-number-within) →
-    let a = c.before.before.before.args in
-    valued_in c.number-within.result ≡ bounded a.largest (number (base_of a.lit.base) (slice a.lit.start_main_part a.lit.end_main_part a.text.now))
-valued c = ap valued_in c.number-within.ensures ∙ rw (bounded_is, part_slice)
+valued : (c : tie.After-number_within-found) →
+    let a = c.args in
+    valued_in c.number_within-found.result ≡ bounded a.largest (number (base_of a.lit.base) (slice a.lit.start_main_part a.lit.end_main_part a.text.now))
+valued c = ap valued_in c.number_within-found.ensures ∙ rw (bounded_is, part_slice)
 
-returns : tie.Need-returns
-returns c = ap valued_in (sym c.enum_told.given.1) ∙ valued c.before.before
+returns : tie.Need-returns-in_default
+returns c = ap valued_in (sym c.in_default.is) ∙ valued c.before
 
-returns-2 : tie.Need-returns-2
-returns-2 c = ap valued_in (sym c.before.found.given.1) ∙ valued c.before.before.before
+returns-2 : tie.Need-returns
+returns-2 c = ap valued_in (sym c.in-Number.is) ∙ valued c.before
 
 pub value_of_spec : {M : Type 1} → statement M
 value_of_spec =
