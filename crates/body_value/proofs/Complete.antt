@@ -15,7 +15,7 @@ use Rattle.parse.proofs.Classes.{blank_is}
 use Rattle.utf8.specs.Cut.{continuation, last_len, front, Aligned}
 use Rattle.utf8.proofs.Cuts.{last_drop, last_le}
 use Rattle.utf8.proofs.Aligned.{aligned_rest}
-use Rattle.escape.specs.Escape.{value, bytes_of, escape_of}
+use Rattle.escape.specs.Escape.{bytes_of, escape_of}
 use Rattle.escape.specs.Pieces.{Esc}
 use Rattle.escape.specs.declared.Allowed.{Allowed}
 use Rattle.escape.specs.declared.Unescaped.{Unescaped}

@@ -12,68 +12,65 @@ use Rattle.string.proofs.put_decoded.Statement.{statement}
 use Rattle.string.proofs.put_decoded.Tie as tie
 
 -- where the value stands, by the case
-as_is : (c : tie.After-put-bytes-arg) → let a = c.before.before.before.before.before.before.before.args in let g = c.before.before.inner.given.0 in
-    Stands a.k a.text.now (string_value a.k a.text.now) (AsItIs g.0 g.1.0)
+as_is : (c : tie.After-put_bytes-arg-1) → let a = c.args in Stands a.k a.text.now (string_value a.k a.text.now) (AsItIs c.in-AsItIs.start c.in-AsItIs.end)
 as_is c =
-    let i = c.before.before.before.before in
-    stands_in _ _ i.before.before.before.args.lit i.before.before.before.requires.0.1 (sym i.inner-range.ensures ∙ c.before.before.inner.given.1)
+    stands_in _ _ c.args.lit c.requires.0.1 (sym c.inner_range-inner.ensures ∙ c.in-AsItIs.is)
 
-escaped : (c : tie.After-write-value-arg) → let a = c.before.before.before.before.before.before.before.args in
-    Stands a.k a.text.now (string_value a.k a.text.now) (Escaped c.before.before.inner2.given.0.0)
+escaped : (c : tie.After-write_value-arg-1) → let a = c.args in
+    Stands a.k a.text.now (string_value a.k a.text.now) (Escaped c.in-Escaped.start)
 escaped c =
-    let i = c.before.before.before.before in
-    stands_in _ _ i.before.before.before.args.lit i.before.before.before.requires.0.1 (sym i.inner-range.ensures ∙ c.before.before.inner2.given.1)
+    stands_in _ _ c.args.lit c.requires.0.1 (sym c.inner_range-inner.ensures ∙ c.in-Escaped.is)
 
-inner-range-requires : tie.Need-inner-range-requires
-inner-range-requires c κs = let p = c.before.before.requires.0 in omega (arith, len_inside _ _ c.before.before.args.lit p.1, p.0)
+inner-range-requires : tie.Need-inner_range-inner-requires
+inner-range-requires c κs = let p = c.requires.0 in omega (arith, len_inside _ _ c.args.lit p.1, p.0)
 
-enum-known-inner : tie.Need-enum-known-inner
+enum-known-inner : tie.Need-enum_known-inner
 enum-known-inner c = search rules
 
-sub-put-bytes : tie.Need-overflow-sub-put-bytes
+sub-put-bytes : tie.Need-slice_bounds-put_bytes-count
 sub-put-bytes c = (as_is c).0
 
-part-put-bytes-start : tie.Need-slice-bounds-put-bytes-start
+part-put-bytes-start : tie.Need-slice_bounds-put_bytes-start
 part-put-bytes-start c = (as_is c).0
 
-part-put-bytes-end : tie.Need-slice-bounds-put-bytes-end
+part-put-bytes-end : tie.Need-slice_bounds-put_bytes-end
 part-put-bytes-end c = (as_is c).1
 
-put-bytes-requires : tie.Need-put-bytes-requires
+put-bytes-requires : tie.Need-put_bytes-requires
 put-bytes-requires c κs =
-    let p = c.before.before.before.before.before.before.before.before.requires in
+    let p = c.requires in
     rw (← (as_is c.before).2) (omega (arith, value_length _ _ (sym p.0.1), p.1))
 
-enum-known-inner-2 : tie.Need-enum-known-inner-2
+enum-known-inner-2 : tie.Need-enum_known-inner-in-Escaped-1
 enum-known-inner-2 c = search rules
 
-sub-write-value : tie.Need-overflow-sub-write-value
+sub-write-value : tie.Need-slice_bounds-write_value-count
 sub-write-value c = (escaped c).0
 
-part-write-value-start : tie.Need-slice-bounds-write-value-start
+part-write-value-start : tie.Need-slice_bounds-write_value-start
 part-write-value-start c = (escaped c).0
 
-part-write-value-end : tie.Need-slice-bounds-write-value-end
+part-write-value-end : tie.Need-slice_bounds-write_value-end
 part-write-value-end c = search rules
 
-write-value-requires : tie.Need-write-value-requires
+write-value-requires : tie.Need-write_value-requires
 write-value-requires c κs =
-    let p = c.before.before.before.before.before.before.before.before.requires in (
+    let p = c.requires in (
       rw part_to_end (simp length-drop (omega (arith, p.0.0))),
       rw (part_to_end, ← (escaped c.before).1) (omega (arith, value_length _ _ (sym p.0.1), p.1)),
     )
 
-same_length : tie.Need-same-length
+same_length : tie.Need-shape_of-out-in-AsItIs
 same_length c = search rules
 
-returns : tie.Need-returns
-returns c = rw (as_is c.before.before.before.before).2 c.before.before.put-bytes.ensures
+returns : tie.Need-returns-in-AsItIs
+returns c = rw (as_is c.before.before.before.before).2 c.put_bytes.ensures
 
-same-length-2 : tie.Need-same-length-2
+same-length-2 : tie.Need-shape_of-out-in-Escaped
 same-length-2 c = search rules
 
-returns-2 : tie.Need-returns-2
-returns-2 c = rw (escaped c.before.before.before.before).1 (rw part_to_end at c.before.before.write-value.ensures)
+returns-2 : tie.Need-returns-in-Escaped
+returns-2 c = rw (escaped c.before.before.before.before).1 (rw part_to_end at c.write_value.ensures)
 
 pub put_decoded_spec : {M : Type 1} → statement M
 put_decoded_spec =
