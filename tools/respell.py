@@ -25,6 +25,8 @@ TOKEN = re.compile(r"\"(?:[^\"\\\n]|\\.)*\"|[A-Za-z_µ][\w'‵′]*(?:-[\w'‵�
 IN_TICKS = re.compile(r"`[^`\n]*`")
 # Lemmas in snake case already, whose name a definition takes: a lemma that would have its function's name gets `_lem`.
 LEMMAS = {"digit_value", "float_read", "float_value", "prefix_len"}
+# A constructor and fields, which keep their name where a definition elsewhere has it too.
+CONSTRUCTORS = {"c-string"}
 # Rattle's own words for goals and steps in the proofs that walk the code.
 MADE = re.compile(r"tie\.(?:Need|spec|close)")
 
@@ -79,7 +81,7 @@ def main(argv):
             new[name] = it
     definitions = {it for name, it in new.items() if "-" not in name} | set(own)
     for name, it in new.items():
-        if "-" in name and not name.isupper() and it in definitions:
+        if "-" in name and not name.isupper() and name not in CONSTRUCTORS and it in definitions:
             new[name] = it + "_lem"
     for name in LEMMAS:
         new[name] = name + "_lem"

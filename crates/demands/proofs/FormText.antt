@@ -127,7 +127,7 @@ bare_utf8 (worth.char c) x f = quoted 39 (char_form 39 c) (omega arith) (char_ut
 bare_utf8 (worth.string v) x f = quoted 34 (char_forms 34 v) (omega arith) (chars_utf8 34 (omega arith) v)
 bare_utf8 (worth.byte b) x f = utf8_ascii 98 _ (omega arith) (quoted 39 (byte_form 39 b) (omega arith) (byte_utf8 39 (omega arith) b f))
 bare_utf8 (worth.byte_string v) x f = utf8_ascii 98 _ (omega arith) (quoted 34 (byte_forms 34 v) (omega arith) (bytes_utf8 34 (omega arith) v f))
-bare_utf8 (worth.c_string_lem v) x f =
+bare_utf8 (worth.c_string v) x f =
     utf8_ascii 99 _ (omega arith) (quoted 34 (byte_forms 34 v) (omega arith) (bytes_utf8 34 (omega arith) v (c_bytes v f)))
 
 pub form_utf8 : (w : Worth) (x : List ℕ) → Fit w → Utf8 x → Utf8 (form_of w x)

@@ -58,7 +58,7 @@ by_worth s k vs (worth.char v) q g = rw g tt
 by_worth s k vs (worth.string v) q g = rw g.values tt
 by_worth s k vs (worth.byte v) q g = rw g tt
 by_worth s k vs (worth.byte_string v) q g = rw g.values tt
-by_worth s k vs (worth.c_string_lem v) q g = rw g.values tt
+by_worth s k vs (worth.c_string v) q g = rw g.values tt
 
 number_kind : (s : List ℕ) {k e : ℕ} {vs : Values} → read_at 0 s ≡ accepted k e vs → NumberKind k vs
 number_kind s {k} {e} {vs} h =

@@ -76,7 +76,7 @@ marked_forms =
       zero_float = unfold decimal in gives refl refl;
       too_far = λ room. refl;
       just_in_range = gives (rw (last 1 (omega arith), million)) (rw (last 1 (omega arith), million));
-      c_string_lem = gives refl refl;
+      c_string = gives refl refl;
       hex = unfold decimal in gives refl refl;
     }
 

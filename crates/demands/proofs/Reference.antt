@@ -65,7 +65,7 @@ kind_most (worth.char v) = omega arith
 kind_most (worth.string v) = omega arith
 kind_most (worth.byte v) = omega arith
 kind_most (worth.byte_string v) = omega arith
-kind_most (worth.c_string_lem v) = omega arith
+kind_most (worth.c_string v) = omega arith
 
 -- ---- the demand
 

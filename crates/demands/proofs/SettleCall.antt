@@ -49,7 +49,7 @@ fault_is m = go
     go (worth.string v) = λ z. absurd (z refl)
     go (worth.byte b) = λ z. absurd (z refl)
     go (worth.byte_string v) = λ z. absurd (z refl)
-    go (worth.c_string_lem v) = λ z. absurd (z refl)
+    go (worth.c_string v) = λ z. absurd (z refl)
 
 measured_is : (m k : ℕ) (w : Worth) (x : List ℕ) → 1 ≤ k → k ≤ 8 → Measure m (form_of w x) (measured k w x)
 unfolding measured

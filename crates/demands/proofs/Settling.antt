@@ -49,7 +49,7 @@ by_fault (worth.char c) f g h = other_kind (worth.char c) (λ e. omega arith) (�
 by_fault (worth.string v) f g h = other_kind (worth.string v) (λ e. omega arith) (λ e. omega arith) h
 by_fault (worth.byte b) f g h = other_kind (worth.byte b) (λ e. omega arith) (λ e. omega arith) h
 by_fault (worth.byte_string v) f g h = other_kind (worth.byte_string v) (λ e. omega arith) (λ e. omega arith) h
-by_fault (worth.c_string_lem v) f g h = other_kind (worth.c_string_lem v) (λ e. omega arith) (λ e. omega arith) h
+by_fault (worth.c_string v) f g h = other_kind (worth.c_string v) (λ e. omega arith) (λ e. omega arith) h
 
 pub large_fault : (w : Worth) → TooLarge w → fault_of w ≡ 45
 large_fault w t = rw (t.1, lt-leb t.0 18446744073709551615 t.2)
@@ -68,7 +68,7 @@ no_fault (worth.char c) _ _ = refl
 no_fault (worth.string v) _ _ = refl
 no_fault (worth.byte b) _ _ = refl
 no_fault (worth.byte_string v) _ _ = refl
-no_fault (worth.c_string_lem v) _ _ = refl
+no_fault (worth.c_string v) _ _ = refl
 
 -- ---- an accepted text and its meaning
 

@@ -146,7 +146,7 @@ fault_most = go
     go (worth.string v) = λ z. absurd (z refl)
     go (worth.byte b) = λ z. absurd (z refl)
     go (worth.byte_string v) = λ z. absurd (z refl)
-    go (worth.c_string_lem v) = λ z. absurd (z refl)
+    go (worth.c_string v) = λ z. absurd (z refl)
 
 measured_spanned : (s : List ℕ) (k : ℕ) (w : Worth) (x : List ℕ) → Spanned 0 s (measured k w x)
 unfolding measured

@@ -112,7 +112,7 @@ module _ (k : Allowed) (s : List ℕ) {kind e : ℕ} {vs : Values} (f : Readable
 abbrev worth_of : Allowed → List ℕ → Worth
 worth_of Text v = worth.string v
 worth_of Bytes v = worth.byte_string v
-worth_of C v = worth.c_string_lem v
+worth_of C v = worth.c_string v
 
 worth_kind : (k : Allowed) (v : List ℕ) → string_kind k ≡ worth.kind_of (worth_of k v)
 worth_kind Text v = refl

@@ -97,7 +97,7 @@ worth_by (worth.char v) s f h g = rw g
 worth_by (worth.string v) s f h g = rw g.values (ap worth.string (decoded_value Text s v f h g))
 worth_by (worth.byte v) s f h g = rw g
 worth_by (worth.byte_string v) s f h g = rw g.values (ap worth.byte_string (decoded_value Bytes s v f h g))
-worth_by (worth.c_string_lem v) s f h g = rw g.values (ap worth.c_string_lem (decoded_value C s v f h g))
+worth_by (worth.c_string v) s f h g = rw g.values (ap worth.c_string (decoded_value C s v f h g))
 
 -- the entry of the meaning's kind reads the text
 kind_read : (s x : List ℕ) {k e : ℕ} {vs : Values} {w : Worth} → read_at 0 s ≡ accepted k e vs → Means s w x

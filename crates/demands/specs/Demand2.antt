@@ -44,7 +44,7 @@ pub record AsTranscribed (s : List ℕ) : Type 0 where
   pub string : read_at 5 s ≡ string_read Text s
   pub byte : read_at 6 s ≡ byte_read s
   pub byte_string : read_at 7 s ≡ string_read Bytes s
-  pub c_string_lem : read_at 8 s ≡ string_read C s
+  pub c_string : read_at 8 s ≡ string_read C s
   -- from `IntegerLit::value`, at a type whose largest value is `largest`
   pub value : (code largest : ℕ) → ValueType code largest → value_at code s ≡ integer_lit_value largest s
   -- from the `value` of `StringLit`, `ByteStringLit` and `CStringLit`, written into a buffer that has `room` bytes or holds buf
@@ -109,7 +109,7 @@ Gives s vs (worth.char v) = vs ≡ value v
 Gives s vs (worth.string v) = GivesBytes 5 s vs v
 Gives s vs (worth.byte v) = vs ≡ value v
 Gives s vs (worth.byte_string v) = GivesBytes 7 s vs v
-Gives s vs (worth.c_string_lem v) = GivesBytes 8 s vs v
+Gives s vs (worth.c_string v) = GivesBytes 8 s vs v
 
 pub record Demand2Reference : Type 0 where
   -- an entry accepts a text exactly when the text has a meaning, of a kind that the entry takes

@@ -28,7 +28,7 @@ pub record MarkedForms : Type 0 where
   pub zero_float : Forms "0e1000001" "0e0" 3
   pub too_far : (room : ℕ) → settle_at (bytes "10e1000000") room ≡ refusal 46 none
   pub just_in_range : Forms "0.1e1000001" "1e1000000" 3
-  pub c_string_lem : Forms "c\"é\"" "c\"\\xc3\\xa9\"" 8
+  pub c_string : Forms "c\"é\"" "c\"\\xc3\\xa9\"" 8
   pub hex : Forms "0x_1F" "31" 2
 
 pub record Marked : Type 0 where

@@ -21,8 +21,8 @@ pub enum Parsed {
 
 // A literal with neither fraction nor exponent is an integer's.
 fn not_integer(lit: FloatLit) -> Parsed
-    ensures result_value { parsed_of result ≡ not_integer lit.end_integer_part lit.end_fractional_part lit.end_number_part }
-    ensures result_value_2 { parsed_counts result ≡ kept_counts (counts_of (Reading.Float lit)) (parsed_of result) }
+    ensures outcome { parsed_of result ≡ not_integer lit.end_integer_part lit.end_fractional_part lit.end_number_part }
+    ensures counts { parsed_counts result ≡ kept_counts (counts_of (Reading.Float lit)) (parsed_of result) }
 {
     if lit.end_integer_part == lit.end_number_part {
         return Parsed::Refused(ParseErrorKind::UnexpectedIntegerLit, Span::Nowhere);
@@ -33,8 +33,8 @@ fn not_integer(lit: FloatLit) -> Parsed
 // After the number: the suffix.
 fn after_number(text: &[u8], lit: FloatLit) -> Parsed
     requires { lit.end_number_part ≤ length text.now }
-    ensures result_value { parsed_of result ≡ after_number text.now lit.end_integer_part lit.end_fractional_part lit.end_number_part }
-    ensures result_value_2 { parsed_counts result ≡ kept_counts (counts_of (Reading.Float lit)) (parsed_of result) }
+    ensures outcome { parsed_of result ≡ after_number text.now lit.end_integer_part lit.end_fractional_part lit.end_number_part }
+    ensures counts { parsed_counts result ≡ kept_counts (counts_of (Reading.Float lit)) (parsed_of result) }
 {
     let end = lit.end_number_part;
     // most literals have no suffix
@@ -112,8 +112,8 @@ fn exponent_end(text: &[u8], f: usize) -> DigitRun
 // After the integer part: fraction, exponent and suffix.
 fn after_integer(text: &[u8], whole: DigitRun) -> Parsed
     requires { PartScan 0 whole.end text.now whole }
-    ensures result_value { parsed_of result ≡ after_integer text.now whole.end }
-    ensures result_value_2 { parsed_counts result ≡ digit_counts text.now (parsed_of result) }
+    ensures outcome { parsed_of result ≡ after_integer text.now whole.end }
+    ensures counts { parsed_counts result ≡ digit_counts text.now (parsed_of result) }
 {
     let i = whole.end;
     let fraction = fraction_end(text, i);
@@ -149,8 +149,8 @@ fn after_integer(text: &[u8], whole: DigitRun) -> Parsed
 
 // The float literal that a text is, or why it is none.
 fn parse_lit(text: &[u8]) -> Parsed
-    ensures result_value { parsed_of result ≡ float_read text.now }
-    ensures result_value_2 { parsed_counts result ≡ digit_counts text.now (parsed_of result) }
+    ensures outcome { parsed_of result ≡ float_read text.now }
+    ensures counts { parsed_counts result ≡ digit_counts text.now (parsed_of result) }
 {
     let first = scan::get(text, 0);
     let Byte::At(b) = first else {
@@ -176,8 +176,8 @@ fn refusal(parsed: Parsed) -> Reading
 
 // litrs's `FloatLit::parse`; the digits are counted besides (02, d).
 pub fn parse(text: &[u8]) -> Reading
-    ensures result_value { outcome_of result ≡ float_read text.now }
-    ensures result_value_2 { counts_of result ≡ digit_counts text.now (float_read text.now) }
+    ensures outcome { outcome_of result ≡ float_read text.now }
+    ensures counts { counts_of result ≡ digit_counts text.now (float_read text.now) }
 {
     let parsed = parse_lit(text);
     let Parsed::Lit(lit) = parsed else {

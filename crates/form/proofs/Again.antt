@@ -51,4 +51,4 @@ settled_same (worth.Worth.char c) = same
 settled_same (worth.Worth.string v) = same
 settled_same (worth.Worth.byte b) = same
 settled_same (worth.Worth.byte_string v) = same
-settled_same (worth.Worth.c_string_lem v) = same
+settled_same (worth.Worth.c_string v) = same

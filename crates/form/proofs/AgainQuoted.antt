@@ -124,6 +124,6 @@ module _ (x : List ℕ) (end : opt SUFFIX x) where
   unfolding form_of
   byte_string_again v h = is_byte_string v (strings BYTE_STRING_PIECE Byte byte_piece 98 v h) refl
 
-  pub c_string_again : (v : List ℕ) → Each CByte v → Means (form_of (worth.Worth.c_string_lem v) x) (worth.Worth.c_string_lem v) x
+  pub c_string_again : (v : List ℕ) → Each CByte v → Means (form_of (worth.Worth.c_string v) x) (worth.Worth.c_string v) x
   unfolding form_of
   c_string_again v h = is_c_string v (strings C_STRING_PIECE CByte c_piece 99 v h) refl

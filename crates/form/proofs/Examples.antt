@@ -23,7 +23,7 @@ pub record Examples : Type 0 where
   pub controls : form_of (worth.string (1 ∷ 31 ∷ 32 ∷ 126 ∷ 127 ∷ [])) [] ≡ bytes "\"\\x01\\x1f ~\\x7f\""
   -- above ASCII: itself in kinds 4 and 5, bytes as escapes in the others
   pub string_wide : form_of (worth.string (195 ∷ 169 ∷ [])) (bytes "é") ≡ bytes "\"é\"é"
-  pub c_string_wide : form_of (worth.c_string_lem (195 ∷ 169 ∷ [])) (bytes "é") ≡ bytes "c\"\\xc3\\xa9\"é"
+  pub c_string_wide : form_of (worth.c_string (195 ∷ 169 ∷ [])) (bytes "é") ≡ bytes "c\"\\xc3\\xa9\"é"
   -- a zero is written twice before b, o and x, and nowhere else
   pub zero : form_of (worth.integer 0) [] ≡ bytes "0"
   pub zero_u : form_of (worth.integer 0) (bytes "u8") ≡ bytes "0u8"

@@ -27,7 +27,7 @@ Fit (worth.char c) = Scalar c
 Fit (worth.string v) = Utf8 v
 Fit (worth.byte b) = Byte b
 Fit (worth.byte_string v) = Each Byte v
-Fit (worth.c_string_lem v) = Each CByte v
+Fit (worth.c_string v) = Each CByte v
 
 abbrev pub settled_worth : Worth → Worth
 settled_worth (worth.bool b) = worth.bool b
@@ -37,4 +37,4 @@ settled_worth (worth.char c) = worth.char c
 settled_worth (worth.string v) = worth.string v
 settled_worth (worth.byte b) = worth.byte b
 settled_worth (worth.byte_string v) = worth.byte_string v
-settled_worth (worth.c_string_lem v) = worth.c_string_lem v
+settled_worth (worth.c_string v) = worth.c_string v

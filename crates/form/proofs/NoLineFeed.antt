@@ -125,7 +125,7 @@ bare_lf (worth.Worth.char c) x f = append (char_form 39 c) (39 ∷ []) (char_lf 
 bare_lf (worth.Worth.string v) x f = append (char_forms 34 v) (34 ∷ []) (rw (by_bytes v f) (texts_lf 34 (λ e. omega arith) v)) tt
 bare_lf (worth.Worth.byte b) x f = append (byte_form 39 b) (39 ∷ []) (byte_lf 39 (λ e. omega arith) b) tt
 bare_lf (worth.Worth.byte_string v) x f = append (byte_forms 34 v) (34 ∷ []) (bytes_lf 34 (λ e. omega arith) v) tt
-bare_lf (worth.Worth.c_string_lem v) x f = append (byte_forms 34 v) (34 ∷ []) (bytes_lf 34 (λ e. omega arith) v) tt
+bare_lf (worth.Worth.c_string v) x f = append (byte_forms 34 v) (34 ∷ []) (bytes_lf 34 (λ e. omega arith) v) tt
 
 -- the suffix of a text is good
 pub means_suffix : (s : List ℕ) (w : Worth) (x : List ℕ) → Means s w x → T (suffix_ok x)

@@ -30,7 +30,7 @@ bare_form (worth.char c) x = 39 ∷ (char_form 39 c ++ (39 ∷ []))
 bare_form (worth.string v) x = 34 ∷ (char_forms 34 v ++ (34 ∷ []))
 bare_form (worth.byte b) x = 98 ∷ 39 ∷ (byte_form 39 b ++ (39 ∷ []))
 bare_form (worth.byte_string v) x = 98 ∷ 34 ∷ (byte_forms 34 v ++ (34 ∷ []))
-bare_form (worth.c_string_lem v) x = 99 ∷ 34 ∷ (byte_forms 34 v ++ (34 ∷ []))
+bare_form (worth.c_string v) x = 99 ∷ 34 ∷ (byte_forms 34 v ++ (34 ∷ []))
 
 -- "The suffix follows unchanged."
 unfoldable pub form_of : Worth → List ℕ → List ℕ
@@ -45,4 +45,4 @@ fault_of (worth.char c) = 0
 fault_of (worth.string v) = 0
 fault_of (worth.byte b) = 0
 fault_of (worth.byte_string v) = 0
-fault_of (worth.c_string_lem v) = 0
+fault_of (worth.c_string v) = 0

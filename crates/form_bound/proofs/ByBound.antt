@@ -50,7 +50,7 @@ module _ (s : List ℕ) (room : ℕ) where
       (bare_form_by s o ≡ bare_form (worth_in k (string_value k s)) []) × (bare_by s o ≡ len (length (bare_form_by s o)))
   string_form Text lit = (refl, sym (plain_bare (worth.string _) _ refl))
   string_form Bytes lit = (refl, sym (plain_bare (worth.byte_string _) _ refl))
-  string_form C lit = (refl, sym (plain_bare (worth.c_string_lem _) _ refl))
+  string_form C lit = (refl, sym (plain_bare (worth.c_string _) _ refl))
 
   module _ (k : Allowed) (lit : StringLit) (is : string_in k lit ≡ read_at 0 s) where
     -- the form and the suffix

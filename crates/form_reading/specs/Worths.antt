@@ -19,7 +19,7 @@ abbrev pub string_worth : ℕ → List ℕ → Worth
 string_worth k s =
     cond (eqb k 5) (worth.string (string_value Text s))
     (cond (eqb k 7) (worth.byte_string (string_value Bytes s))
-    (worth.c_string_lem (string_value C s)))
+    (worth.c_string (string_value C s)))
 
 -- of a reading of kind k: the truth; the number that base and both ends of the digits mark; the number that the three ends mark; the value; the
 -- decoded bytes

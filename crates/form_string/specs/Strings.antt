@@ -9,7 +9,7 @@ use Rattle.grammar.specs.Meaning as worth
 abbrev pub worth_in : Allowed → List ℕ → Worth
 worth_in Text v = worth.string v
 worth_in Bytes v = worth.byte_string v
-worth_in C v = worth.c_string_lem v
+worth_in C v = worth.c_string v
 
 -- 01, The settled form: "Quoted: never raw"
 -- 34 is `"`, 98 is `b`, 99 is `c`

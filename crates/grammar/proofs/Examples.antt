@@ -144,7 +144,7 @@ byte_means t v m = is_byte v (record { content = t; is = refl; inner = m; ending
 string_means : (t v : List ℕ) → Pieces STRING_PIECE t v → Means (34 ∷ (t ++ (34 ∷ []))) (Worth.string v) []
 string_means t v m = is_string v (record { content = t; is = refl; inner = m; ending = inl refl }) refl
 
-c_string_means : (t v : List ℕ) → Pieces C_STRING_PIECE t v → Means (99 ∷ 34 ∷ (t ++ (34 ∷ []))) (Worth.c_string_lem v) []
+c_string_means : (t v : List ℕ) → Pieces C_STRING_PIECE t v → Means (99 ∷ 34 ∷ (t ++ (34 ∷ []))) (Worth.c_string v) []
 c_string_means t v m = is_c_string v (record { content = t; is = refl; inner = m; ending = inl refl }) refl
 
 -- p stands at the front of s
@@ -202,10 +202,10 @@ pub record Texts : Type 0 where
   pub string_continue : Means (bytes "\"foo\\\n\n     bar\"") (Worth.string (bytes "foobar")) []
   pub raw_string : Means (bytes "r##\"foo #\"# bar\"##") (Worth.string (bytes "foo #\"# bar")) []
   pub byte_code : Means (bytes "b'\\xA0'") (Worth.byte 160) []
-  pub c_plain : Means (bytes "c\"æ\"") (Worth.c_string_lem (195 ∷ 166 ∷ [])) []
-  pub c_unicode : Means (bytes "c\"\\u{00E6}\"") (Worth.c_string_lem (195 ∷ 166 ∷ [])) []
-  pub c_codes : Means (bytes "c\"\\xC3\\xA6\"") (Worth.c_string_lem (195 ∷ 166 ∷ [])) []
-  pub c_code : Means (bytes "c\"\\xE6\"") (Worth.c_string_lem (230 ∷ [])) []
+  pub c_plain : Means (bytes "c\"æ\"") (Worth.c_string (195 ∷ 166 ∷ [])) []
+  pub c_unicode : Means (bytes "c\"\\u{00E6}\"") (Worth.c_string (195 ∷ 166 ∷ [])) []
+  pub c_codes : Means (bytes "c\"\\xC3\\xA6\"") (Worth.c_string (195 ∷ 166 ∷ [])) []
+  pub c_code : Means (bytes "c\"\\xE6\"") (Worth.c_string (230 ∷ [])) []
   -- "non-greedy": it closes at the first quote, and `bar"` is no suffix
   pub raw_first : None (bytes "r\"foo\"bar\"")
 

@@ -71,8 +71,8 @@ Form raw_string_k s w x = (v : List ℕ) × RAW_STRING_LITERAL s v x × (w ≡ W
 Form byte_k s w x = (v : ℕ) × BYTE_LITERAL s v x × (w ≡ Worth.byte v)
 Form byte_string_k s w x = (v : List ℕ) × BYTE_STRING_LITERAL s v x × (w ≡ Worth.byte_string v)
 Form raw_byte_string_k s w x = (v : List ℕ) × RAW_BYTE_STRING_LITERAL s v x × (w ≡ Worth.byte_string v)
-Form c_string_k s w x = (v : List ℕ) × C_STRING_LITERAL s v x × (w ≡ Worth.c_string_lem v)
-Form raw_c_string_k s w x = (v : List ℕ) × RAW_C_STRING_LITERAL s v x × (w ≡ Worth.c_string_lem v)
+Form c_string_k s w x = (v : List ℕ) × C_STRING_LITERAL s v x × (w ≡ Worth.c_string v)
+Form raw_c_string_k s w x = (v : List ℕ) × RAW_C_STRING_LITERAL s v x × (w ≡ Worth.c_string v)
 
 number_kind : (s : List ℕ) → T (begins DEC_DIGIT s) → kind_at s ≡ number_k
 unfolding DEC_DIGIT
@@ -154,9 +154,9 @@ form_unique byte_string_k s v w x y (a, l, p) (b, m, q) =
 form_unique raw_byte_string_k s v w x y (a, l, p) (b, m, q) =
     worth_unique Worth.byte_string a b v w x y p q (raw_unique _ (98 ∷ 114 ∷ []) s a b x y l m)
 form_unique c_string_k s v w x y (a, l, p) (b, m, q) =
-    worth_unique Worth.c_string_lem a b v w x y p q (quoted_unique C_STRING_PIECE c_string_needs (99 ∷ 34 ∷ []) s a b x y l m)
+    worth_unique Worth.c_string a b v w x y p q (quoted_unique C_STRING_PIECE c_string_needs (99 ∷ 34 ∷ []) s a b x y l m)
 form_unique raw_c_string_k s v w x y (a, l, p) (b, m, q) =
-    worth_unique Worth.c_string_lem a b v w x y p q (raw_unique _ (99 ∷ 114 ∷ []) s a b x y l m)
+    worth_unique Worth.c_string a b v w x y p q (raw_unique _ (99 ∷ 114 ∷ []) s a b x y l m)
 
 -- The grammar is unambiguous: kind, exact value and suffix of a text are determined.
 pub unambiguous : (s x y : List ℕ) (v w : Worth) → Means s v x → Means s w y → (v ≡ w) × (x ≡ y)

@@ -15,7 +15,7 @@ pub data Worth : Type 0 where
   string : List ℕ → Worth
   byte : ℕ → Worth
   byte_string : List ℕ → Worth
-  c_string_lem : List ℕ → Worth
+  c_string : List ℕ → Worth
 
 -- 01: "1 bool, 2 integer, 3 float, 4 char, 5 string, 6 byte, 7 byte string, 8 C string"
 abbrev pub kind_of : Worth → ℕ
@@ -26,7 +26,7 @@ kind_of (char v) = 4
 kind_of (string v) = 5
 kind_of (byte v) = 6
 kind_of (byte_string v) = 7
-kind_of (c_string_lem v) = 8
+kind_of (c_string v) = 8
 
 -- the same kind and the same exact value; of floats as 01 says it
 pub data SameWorth : Worth → Worth → Type 0 where
@@ -55,5 +55,5 @@ pub data Means (s : List ℕ) (w : Worth) (x : List ℕ) : Type 0 where
   is_byte : (v : ℕ) → BYTE_LITERAL s v x → w ≡ byte v → Means s w x
   is_byte_string : (v : List ℕ) → BYTE_STRING_LITERAL s v x → w ≡ byte_string v → Means s w x
   is_raw_byte_string : (v : List ℕ) → RAW_BYTE_STRING_LITERAL s v x → w ≡ byte_string v → Means s w x
-  is_c_string : (v : List ℕ) → C_STRING_LITERAL s v x → w ≡ c_string_lem v → Means s w x
-  is_raw_c_string : (v : List ℕ) → RAW_C_STRING_LITERAL s v x → w ≡ c_string_lem v → Means s w x
+  is_c_string : (v : List ℕ) → C_STRING_LITERAL s v x → w ≡ c_string v → Means s w x
+  is_raw_c_string : (v : List ℕ) → RAW_C_STRING_LITERAL s v x → w ≡ c_string v → Means s w x

@@ -80,8 +80,8 @@ fn scan(text: &[u8]) -> IntegerLit
 // The literal where its suffix is good, or the suffix's refusal.
 fn check_end(text: &[u8], lit: IntegerLit) -> Parsed
     requires { lit.end_main_part ≤ length text.now }
-    ensures result_value { parsed_of result ≡ after_suffix text.now lit.end_main_part (parsed_of (Parsed.Lit lit)) }
-    ensures result_value_2 { parsed_counts result ≡ kept_counts (parsed_counts (Parsed.Lit lit)) (parsed_of result) }
+    ensures outcome { parsed_of result ≡ after_suffix text.now lit.end_main_part (parsed_of (Parsed.Lit lit)) }
+    ensures counts { parsed_counts result ≡ kept_counts (parsed_counts (Parsed.Lit lit)) (parsed_of result) }
 {
     let end = lit.end_main_part;
     // most literals have no suffix
@@ -100,8 +100,8 @@ fn check_end(text: &[u8], lit: IntegerLit) -> Parsed
 
 // Of a text whose first byte is a decimal digit.
 fn parse_impl(text: &[u8]) -> Parsed
-    ensures result_value { parsed_of result ≡ integer_at text.now }
-    ensures result_value_2 { parsed_counts result ≡ digit_counts text.now (parsed_of result) }
+    ensures outcome { parsed_of result ≡ integer_at text.now }
+    ensures counts { parsed_counts result ≡ digit_counts text.now (parsed_of result) }
 {
     let lit = scan(text);
     let checked = check_end(text, lit);
@@ -125,8 +125,8 @@ fn parse_impl(text: &[u8]) -> Parsed
 
 // The integer literal that a text is, or why it is none.
 fn parse_lit(text: &[u8]) -> Parsed
-    ensures result_value { parsed_of result ≡ integer_read text.now }
-    ensures result_value_2 { parsed_counts result ≡ digit_counts text.now (parsed_of result) }
+    ensures outcome { parsed_of result ≡ integer_read text.now }
+    ensures counts { parsed_counts result ≡ digit_counts text.now (parsed_of result) }
 {
     let first = scan::get(text, 0);
     let Byte::At(b) = first else {
@@ -152,8 +152,8 @@ fn refusal(parsed: Parsed) -> Reading
 
 // litrs's `IntegerLit::parse`; the digits are counted besides (02, d).
 pub fn parse(text: &[u8]) -> Reading
-    ensures result_value { outcome_of result ≡ integer_read text.now }
-    ensures result_value_2 { counts_of result ≡ digit_counts text.now (integer_read text.now) }
+    ensures outcome { outcome_of result ≡ integer_read text.now }
+    ensures counts { counts_of result ≡ digit_counts text.now (integer_read text.now) }
 {
     let parsed = parse_lit(text);
     let Parsed::Lit(lit) = parsed else {

@@ -36,9 +36,9 @@ fn is_overlong(found: Reading) -> bool
 
 // The reading of a text by the keyed entry.
 pub fn read_keyed(text: &[u8]) -> Keyed
-    ensures result_value { keyed_of result ≡ keyed_at text.now }
-    ensures result_value_2 { keyed_counts result ≡ digit_counts text.now (keyed_at text.now) }
-    ensures text_value { text.now ≡ text.now }
+    ensures outcome { keyed_of result ≡ keyed_at text.now }
+    ensures counts { keyed_counts result ≡ digit_counts text.now (keyed_at text.now) }
+    ensures text_unchanged { text.exit.now ≡ text.entry.now }
 {
     let found = literal::read(0, text);
     if is_overlong(found) {

@@ -27,7 +27,7 @@ use types::{FloatFound, FloatType, IntegerFound, IntegerType, Largest};
 // The code of the integer type that a name stands for, or 0.
 pub fn integer_from_suffix(name: &[u8]) -> u8
     ensures value { result ≡ integer_from_suffix name.now }
-    ensures name_value { name.now ≡ name.now }
+    ensures name_unchanged { name.exit.now ≡ name.entry.now }
 {
     let found = IntegerType::from_suffix(name);
     let IntegerFound::Type(ty) = found else {
@@ -39,7 +39,7 @@ pub fn integer_from_suffix(name: &[u8]) -> u8
 // The code of the float type that a name stands for, or 0.
 pub fn float_from_suffix(name: &[u8]) -> u8
     ensures value { result ≡ float_from_suffix name.now }
-    ensures name_value { name.now ≡ name.now }
+    ensures name_unchanged { name.exit.now ≡ name.entry.now }
 {
     let found = FloatType::from_suffix(name);
     let FloatFound::Type(ty) = found else {
@@ -69,8 +69,8 @@ fn kind_of(entry: u64) -> Allowed
 // The reading of a checked text. Each kind's parser is called at this one place.
 fn entry(code: u64, text: &[u8]) -> Reading
     requires { (code ≤ 8) × (length text.now ≤ 65536) }
-    ensures result_value { outcome_of result ≡ entry_read code text.now }
-    ensures result_value_2 { counts_of result ≡ digit_counts text.now (entry_read code text.now) }
+    ensures outcome { outcome_of result ≡ entry_read code text.now }
+    ensures counts { counts_of result ≡ digit_counts text.now (entry_read code text.now) }
 {
     let e = dispatch::chosen(code, text);
     match e {
@@ -85,9 +85,9 @@ fn entry(code: u64, text: &[u8]) -> Reading
 
 // The reading of a text by entry code, and how many digits a number's parts have.
 pub fn read(code: u64, text: &[u8]) -> Reading
-    ensures result_value { outcome_of result ≡ read_at code text.now }
-    ensures result_value_2 { counts_of result ≡ digit_counts text.now (read_at code text.now) }
-    ensures text_value { text.now ≡ text.now }
+    ensures outcome { outcome_of result ≡ read_at code text.now }
+    ensures counts { counts_of result ≡ digit_counts text.now (read_at code text.now) }
+    ensures text_unchanged { text.exit.now ≡ text.entry.now }
 {
     if 8 < code {
         return err::perr_nowhere(ParseErrorKind::BadCode);
@@ -111,8 +111,8 @@ fn refused_value(found: Reading) -> IntegerValue
 
 // The value of an integer literal at a type code.
 pub fn value(code: u64, text: &[u8]) -> IntegerValue
-    ensures result_value { valued_of result ≡ value_at code text.now }
-    ensures text_value { text.now ≡ text.now }
+    ensures answer { valued_of result ≡ value_at code text.now }
+    ensures text_unchanged { text.exit.now ≡ text.entry.now }
 {
     let found = IntegerType::from_code(code);
     let IntegerFound::Type(ty) = found else {
@@ -176,9 +176,9 @@ fn refused_decoding(found: Quoted) -> Decoded
 
 // The decoded bytes of a literal by entry code 5, 7 or 8, written to the front of out.
 pub fn decode(code: u64, text: &[u8], out: &mut [u8]) -> Decoded
-    ensures result_value { decoded_of result ≡ decode_at code text.now (length out.old) }
+    ensures answer { decoded_of result ≡ decode_at code text.now (length out.old) }
     ensures out_after { out.new ≡ decode_buffer code text.now out.old }
-    ensures text_value { text.now ≡ text.now }
+    ensures text_unchanged { text.exit.now ≡ text.entry.now }
 {
     let found = kind_from_code(code);
     let KindFound::Kind(kind) = found else {

@@ -60,8 +60,8 @@ fn put_reading(out: &mut [u8], text: &[u8], found: Reading) -> usize
 
 // The kind and length of a text's settled form, with no buffer.
 pub fn measure(text: &[u8]) -> Settled
-    ensures result_value { settled_of result ≡ measure_at text.now }
-    ensures text_value { text.now ≡ text.now }
+    ensures answer { settled_of result ≡ measure_at text.now }
+    ensures text_unchanged { text.exit.now ≡ text.entry.now }
 {
     let found = literal::read(0, text);
     measure_of(text, found)
@@ -70,7 +70,7 @@ pub fn measure(text: &[u8]) -> Settled
 // The form of a reading: measured first where it might not fit.
 fn settle_found(text: &[u8], out: &mut [u8], found: Reading) -> Settled
     requires { outcome_of found ≡ read_at 0 text.now }
-    ensures result_value { settled_of result ≡ settle_at text.now (length out.old) }
+    ensures answer { settled_of result ≡ settle_at text.now (length out.old) }
     ensures out_after { out.new ≡ settle_buffer text.now out.old }
 {
     if !form_bound::fits_by_bound(text, found, out.len()) {
@@ -88,9 +88,9 @@ fn settle_found(text: &[u8], out: &mut [u8], found: Reading) -> Settled
 
 // A text's settled form, written to the front of out. A refusal leaves every byte of out as it came.
 pub fn settle(text: &[u8], out: &mut [u8]) -> Settled
-    ensures result_value { settled_of result ≡ settle_at text.now (length out.old) }
+    ensures answer { settled_of result ≡ settle_at text.now (length out.old) }
     ensures out_after { out.new ≡ settle_buffer text.now out.old }
-    ensures text_value { text.now ≡ text.now }
+    ensures text_unchanged { text.exit.now ≡ text.entry.now }
 {
     let found = literal::read(0, text);
     let Reading::Refused(kind, span) = found else {

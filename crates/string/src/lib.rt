@@ -184,7 +184,7 @@ fn put_decoded(out: &mut [u8], text: &[u8], k: Allowed, lit: StringLit) -> usize
 // The decoded bytes of a literal that was read from the text: they are counted, so that a refusal leaves every byte of out as it came.
 pub fn decode(text: &[u8], k: Allowed, lit: StringLit, out: &mut [u8]) -> Decoded
     requires { (length text.now < 4294967296) × (parsed_of k (Quoted.Lit lit) ≡ string_read k text.now) }
-    ensures result_value { decoded_of result ≡ string_decoded k text.now (length out.old) }
+    ensures answer { decoded_of result ≡ string_decoded k text.now (length out.old) }
     ensures out_after { out.new ≡ buffer_after k text.now out.old }
 {
     if out.len() < lit.value_len {

@@ -54,7 +54,7 @@ impl IntegerType {
     // The type that a suffix names: litrs's `IntegerType::from_suffix`.
     pub fn from_suffix(suffix: &[u8]) -> IntegerFound
         ensures value { result ≡ integer_named suffix.now }
-        ensures suffix_value { suffix.now ≡ suffix.now }
+        ensures suffix_unchanged { suffix.exit.now ≡ suffix.entry.now }
     {
         if scan::is_same(suffix, b"u8") {
             return IntegerFound::Type(IntegerType::U8);
@@ -174,7 +174,7 @@ impl FloatType {
     // The type that a suffix names.
     pub fn from_suffix(suffix: &[u8]) -> FloatFound
         ensures value { result ≡ float_named suffix.now }
-        ensures suffix_value { suffix.now ≡ suffix.now }
+        ensures suffix_unchanged { suffix.exit.now ≡ suffix.entry.now }
     {
         if scan::is_same(suffix, b"f32") {
             return FloatFound::Type(FloatType::F32);

@@ -7,8 +7,8 @@ use Rattle.float.proofs.not_integer.Goals as goal
 
 pub returns-then-lit : goal.returns-then-lit
 unfolding not_integer
-returns-then-lit c = record { result_value = rw (eq-eqb _ _ c.if-lit.true); result_value_2 = refl }
+returns-then-lit c = record { outcome = rw (eq-eqb _ _ c.if-lit.true); counts = refl }
 
 pub returns : goal.returns
 unfolding not_integer
-returns c = record { result_value = rw (ne_eqb _ _ c.if-lit.false); result_value_2 = refl }
+returns c = record { outcome = rw (ne_eqb _ _ c.if-lit.false); counts = refl }

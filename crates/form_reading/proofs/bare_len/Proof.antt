@@ -127,7 +127,7 @@ returns-8 : tie.Need-returns-8
 returns-8 c = rw c.before.before.found7.given.1 (ap len c.form-len3.ensures.0 ∙ plain_bare (worth.byte_string _) _ refl)
 
 returns-9 : tie.Need-returns-9
-returns-9 c = rw c.before.before.found8.given.1 (ap len c.form-len4.ensures.0 ∙ plain_bare (worth.c_string_lem _) _ refl)
+returns-9 c = rw c.before.before.found8.given.1 (ap len c.form-len4.ensures.0 ∙ plain_bare (worth.c_string _) _ refl)
 
 pub bare_len_spec : {M : Type 1} → statement M
 bare_len_spec =

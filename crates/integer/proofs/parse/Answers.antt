@@ -10,10 +10,10 @@ refusal-requires c = subst IsRefused (sym c.in_default.is) tt
 
 pub returns-in_default : goal.returns-in_default
 returns-in_default c =
-    let p = c.parse_lit-parsed.ensures in record { result_value = c.refusal.ensures.0 ∙ p.result_value; result_value_2 = c.refusal.ensures.1 ∙ ap parsed_counts (sym c.in_default.is) ∙ p.result_value_2 ∙ ap (digit_counts _) p.result_value }
+    let p = c.parse_lit-parsed.ensures in record { outcome = c.refusal.ensures.0 ∙ p.outcome; counts = c.refusal.ensures.1 ∙ ap parsed_counts (sym c.in_default.is) ∙ p.counts ∙ ap (digit_counts _) p.outcome }
 
 pub returns : goal.returns
 returns c =
     let p = c.parse_lit-parsed.ensures in
     let known = sym c.in-Lit.is in
-    record { result_value = ap parsed_of known ∙ p.result_value; result_value_2 = ap parsed_counts known ∙ p.result_value_2 ∙ ap (digit_counts _) p.result_value }
+    record { outcome = ap parsed_of known ∙ p.outcome; counts = ap parsed_counts known ∙ p.counts ∙ ap (digit_counts _) p.outcome }

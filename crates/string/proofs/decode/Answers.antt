@@ -10,11 +10,11 @@ pub returns-then-out-lit : goal.returns-then-out-lit
 returns-then-out-lit c =
     let p = c.requires.1 in
     let both = decode_small _ _ c.args.out.now p (omega (arith, value_length _ _ (sym p), c.if-out-lit.true)) in
-    record { result_value = both.0; out_after = both.1 }
+    record { answer = both.0; out_after = both.1 }
 
 pub returns : goal.returns
 returns c =
     let p = c.requires.1 in
     let w = c.put_decoded.ensures in
     let both = decode_written _ _ c.args.out.now p (omega (arith, value_length _ _ (sym p), c.if-out-lit.false)) in
-    rw (w.count, w.bytes) (record { result_value = both.0; out_after = both.1 })
+    rw (w.count, w.bytes) (record { answer = both.0; out_after = both.1 })
