@@ -20,115 +20,100 @@ order c = texts.order _ _ _ _ c.requires.0 c.requires.1
 mantissa : (c : tie.Start) → let f = c.args.lit.end_fractional_part in length (take f c.args.text.now) ≡ f
 mantissa c = texts.mantissa_length _ _ _ _ c.requires.0 c.requires.1
 
-inside : (c : tie.After-last-end) → c.last-end.result ≤ c.before.before.before.args.lit.end_fractional_part
-inside c = let a = c.before.before.before in rw c.last-end.ensures (texts.last_inside _ _ _ _ a.requires.0 a.requires.1)
+inside : (c : tie.After-last_end-last) → c.last_end-last.result ≤ c.args.lit.end_fractional_part
+inside c = rw c.last_end-last.ensures (texts.last_inside _ _ _ _ c.requires.0 c.requires.1)
 
-slice-aggregate-mantissa : tie.Need-slice-aggregate-mantissa
-slice-aggregate-mantissa c = sym (mantissa c.before.before)
+slice-aggregate-mantissa : tie.Need-slice_bounds-mantissa-end
+slice-aggregate-mantissa c = sym (mantissa c.before)
 
-last-end-requires : tie.Need-last-end-requires
+last-end-requires : tie.Need-last_end-last-requires
 last-end-requires c κs = search rules
 
-returns : tie.Need-returns
+returns : tie.Need-returns-then-last-eq0
 returns c =
-    let a = c.before.before.before.before in
-    texts.found_zero _ _ _ _ a.requires.0 a.requires.1 (sym c.before.last-end.ensures ∙ c.if1.true)
+    texts.found_zero _ _ _ _ c.requires.0 c.requires.1 (sym c.last_end-last.ensures ∙ c.if-last-eq0.true)
 
-lead-len-requires : tie.Need-lead-len-requires
+lead-len-requires : tie.Need-lead_len-first-requires
 lead-len-requires c κs = search rules
 
-sub-digits-len : tie.Need-overflow-sub-digits-len
+sub-digits-len : tie.Need-slice_bounds-digits_len-count
 sub-digits-len c = inside c.before.before
 
-part-digits-len-start : tie.Need-slice-bounds-digits-len-start
+part-digits-len-start : tie.Need-slice_bounds-digits_len-start
 part-digits-len-start c = inside c.before.before
 
-part-digits-len-end : tie.Need-slice-bounds-digits-len-end
-part-digits-len-end c = omega (arith, order c.before.before.before.before.before)
+part-digits-len-end : tie.Need-slice_bounds-digits_len-end
+part-digits-len-end c = omega (arith, order c.before.before.before.before)
 
-digits-len-requires : tie.Need-digits-len-requires
+digits-len-requires : tie.Need-digits_len-zeros-requires
 digits-len-requires c κs = search rules
 
-sub-digits-len-2 : tie.Need-overflow-sub-digits-len-2
-sub-digits-len-2 c = (order c.before.before.before.before.before.before.before).0
+sub-digits-len-2 : tie.Need-slice_bounds-digits_len-count-2
+sub-digits-len-2 c = (order c.before.before.before.before.before.before).0
 
-part-digits-len-start-2 : tie.Need-slice-bounds-digits-len-start-2
-part-digits-len-start-2 c = (order c.before.before.before.before.before.before.before).0
+part-digits-len-start-2 : tie.Need-slice_bounds-digits_len-start-2
+part-digits-len-start-2 c = (order c.before.before.before.before.before.before).0
 
-part-digits-len-end-2 : tie.Need-slice-bounds-digits-len-end-2
-part-digits-len-end-2 c = omega (arith, order c.before.before.before.before.before.before.before)
+part-digits-len-end-2 : tie.Need-slice_bounds-digits_len-end-2
+part-digits-len-end-2 c = omega (arith, order c.before.before.before.before.before.before)
 
-digits-len-requires-2 : tie.Need-digits-len-requires-2
+digits-len-requires-2 : tie.Need-digits_len-places-requires
 digits-len-requires-2 c κs = search rules
 
-exponent-start-requires : tie.Need-exponent-start-requires
-exponent-start-requires c κs = (order c.before.before.before.before.before.before.before.before.before).1.0
+exponent-start-requires : tie.Need-exponent_start-start-requires
+exponent-start-requires c κs = (order c.before.before.before.before.before.before.before.before).1.0
 
-sub-exponent-of : tie.Need-overflow-sub-exponent-of
+sub-exponent-of : tie.Need-slice_bounds-exponent_of-count
 sub-exponent-of c = search rules
 
-part-exponent-of-start : tie.Need-slice-bounds-exponent-of-start
+part-exponent-of-start : tie.Need-slice_bounds-exponent_of-start
 part-exponent-of-start c = search rules
 
-part-exponent-of-end : tie.Need-slice-bounds-exponent-of-end
-part-exponent-of-end c = (order c.before.before.before.before.before.before.before.before.before.before).1.1
+part-exponent-of-end : tie.Need-slice_bounds-exponent_of-end
+part-exponent-of-end c = (order c.before.before.before.before.before.before.before.before.before).1.1
 
-exponent-of-requires : tie.Need-exponent-of-requires
+exponent-of-requires : tie.Need-exponent_of-ex-requires
 exponent-of-requires c κs = search rules
 
-size_most : (c : tie.After-exponent-of) → c.exponent-of.result.size ≤ 2000001
-size_most c = capped_most _ _ c.exponent-of.ensures.1
+size_most : (c : tie.After-exponent_of-ex) → c.exponent_of-ex.result.size ≤ 2000001
+size_most c = capped_most _ _ c.exponent_of-ex.ensures.1
 
 -- a text has no more digits than bytes
-zeros_most : (c : tie.After-digits-len) → c.digits-len.result ≤ 65536
+zeros_most : (c : tie.After-digits_len-zeros) → c.digits_len-zeros.result ≤ 65536
 zeros_most c =
-    let a = c.before.before.before.before.before.before.before in
-    let l = c.before.before.before.before.last-end.result in
-    omega (arith, c.digits-len.ensures.1, part_short l a.args.lit.end_fractional_part 65536 a.args.text.now a.requires.0)
+    let l = c.last_end-last.result in
+    omega (arith, c.digits_len-zeros.ensures.1, part_short l c.args.lit.end_fractional_part 65536 c.args.text.now c.requires.0)
 
-places_most : (c : tie.After-digits-len2) → c.digits-len2.result ≤ 65536
+places_most : (c : tie.After-digits_len-places) → c.digits_len-places.result ≤ 65536
 places_most c =
-    let a = c.before.before.before.before.before.before.before.before.before in
-    let l = a.args.lit in
-    omega (arith, c.digits-len2.ensures.1, part_short l.end_integer_part l.end_fractional_part 65536 a.args.text.now a.requires.0)
+    let l = c.args.lit in
+    omega (arith, c.digits_len-places.ensures.1, part_short l.end_integer_part l.end_fractional_part 65536 c.args.text.now c.requires.0)
 
-add-to-power : tie.Need-overflow-add-to-power
+add-to-power : tie.Need-overflow_add-ex
 add-to-power c = omega (arith, size_most c.before.before, places_most c.before.before.before.before.before)
 
-to-power-requires : tie.Need-to-power-requires
+to-power-requires : tie.Need-to_power-requires
 to-power-requires c κs = search rules
 
-returns-2 : tie.Need-returns-2
+returns-2 : tie.Need-returns-then-ex
 returns-2 c =
-    let x = c.before.before.before in
-    let p = x.before.before.before in
-    let z = p.before.before in
-    let r = z.before.before in
-    let l = r.before.before in
-    let a = l.before.before.before in
-    rw c.to-power.ensures
-    (texts.found_down _ _ _ _ a.requires.0 a.requires.1 l.last-end.result _ _ _ _ _ _ l.last-end.ensures r.before.if1.false r.lead-len.ensures
-    z.digits-len.ensures.0 p.digits-len2.ensures.0 x.before.before.exponent-start.ensures.1
-    x.exponent-of.ensures.0 x.exponent-of.ensures.1 c.before.before.if2.true)
+    rw c.to_power.ensures
+    (texts.found_down _ _ _ _ c.requires.0 c.requires.1 c.last_end-last.result _ _ _ _ _ _ c.last_end-last.ensures c.if-last-eq0.false c.lead_len-first.ensures
+    c.digits_len-zeros.ensures.0 c.digits_len-places.ensures.0 c.exponent_start-start.ensures.1
+    c.exponent_of-ex.ensures.0 c.exponent_of-ex.ensures.1 c.if-ex.true)
 
-add-to-power-2 : tie.Need-overflow-add-to-power-2
+add-to-power-2 : tie.Need-overflow_add-ex-2
 add-to-power-2 c = omega (arith, size_most c.before.before, zeros_most c.before.before.before.before.before.before.before)
 
-to-power-requires-2 : tie.Need-to-power-requires-2
+to-power-requires-2 : tie.Need-to_power-requires-2
 to-power-requires-2 c κs = search rules
 
-returns-3 : tie.Need-returns-3
+returns-3 : tie.Need-returns
 returns-3 c =
-    let x = c.before.before.before in
-    let p = x.before.before.before in
-    let z = p.before.before in
-    let r = z.before.before in
-    let l = r.before.before in
-    let a = l.before.before.before in
-    rw c.to-power2.ensures
-    (texts.found_up _ _ _ _ a.requires.0 a.requires.1 l.last-end.result _ _ _ _ _ _ l.last-end.ensures r.before.if1.false r.lead-len.ensures
-    z.digits-len.ensures.0 p.digits-len2.ensures.0 x.before.before.exponent-start.ensures.1
-    x.exponent-of.ensures.0 x.exponent-of.ensures.1 c.before.before.if2.false)
+    rw c.to_power-2.ensures
+    (texts.found_up _ _ _ _ c.requires.0 c.requires.1 c.last_end-last.result _ _ _ _ _ _ c.last_end-last.ensures c.if-last-eq0.false c.lead_len-first.ensures
+    c.digits_len-zeros.ensures.0 c.digits_len-places.ensures.0 c.exponent_start-start.ensures.1
+    c.exponent_of-ex.ensures.0 c.exponent_of-ex.ensures.1 c.if-ex.false)
 
 pub scale_spec : {M : Type 1} → statement M
 scale_spec =

@@ -15,54 +15,54 @@ use Rattle.form_float.proofs.Forms as forms
 use Rattle.form_float.proofs.put_float.Statement.{statement}
 use Rattle.form_float.proofs.put_float.Tie as tie
 
-zero : (c : tie.After-enum-told) →
-    let a = c.before.before.before.before.before.args in reduced_form (reduce (decimal_of a.text.now a.lit)) ≡ 48 ∷ 101 ∷ 48 ∷ []
-zero c = forms.zero_form _ _ _ c.before.before.scale.ensures c.enum_told.given.1
+zero : (c : tie.In-Zero) →
+    let a = c.args in reduced_form (reduce (decimal_of a.text.now a.lit)) ≡ 48 ∷ 101 ∷ 48 ∷ []
+zero c = forms.zero_form _ _ _ c.scale-scaling.ensures c.in-Zero.is
 
-found : (c : tie.After-put-scaled-arg2) →
-    let a = c.before.before.before.before.before.before.before.before.args in
-    ScaledTo (take a.lit.end_fractional_part a.text.now) (decimal_of a.text.now a.lit) c.before.before.before.scaling.given.0.0
-found c = forms.found _ _ _ c.before.before.before.before.before.scale.ensures _ c.before.before.before.scaling.given.1
+found : (c : tie.After-put_scaled-arg-1) →
+    let a = c.args in
+    ScaledTo (take a.lit.end_fractional_part a.text.now) (decimal_of a.text.now a.lit) c.in-To.r
+found c = forms.found _ _ _ c.scale-scaling.ensures _ c.in-To.is
 
-scale-requires : tie.Need-scale-requires
+scale-requires : tie.Need-scale-scaling-requires
 scale-requires c κs = search rules
 
-enum_told : tie.Need-enum-told
+enum_told : tie.Need-enum_told-1
 enum_told c = search rules
 
-put-three-requires : tie.Need-put-three-requires
-put-three-requires c κs = omega (arith, rw (zero c.before) at c.before.before.before.before.before.before.requires.1.1)
+put-three-requires : tie.Need-put_three-requires
+put-three-requires c κs = omega (arith, rw (zero c.before) at c.requires.1.1)
 
-enum-told-2 : tie.Need-enum-told-2
+enum-told-2 : tie.Need-enum_told-in-TooFar
 enum-told-2 c = search rules
 
-enum-known-scaling : tie.Need-enum-known-scaling
+enum-known-scaling : tie.Need-enum_known-scaling
 enum-known-scaling c = search rules
 
-slice-aggregate-put-scaled : tie.Need-slice-aggregate-put-scaled
+slice-aggregate-put-scaled : tie.Need-slice_bounds-put_scaled-end
 slice-aggregate-put-scaled c =
-    let a = c.before.before.before.before.before.before.before.before in sym (mantissa_length _ _ _ _ a.requires.0.0 a.requires.0.1)
+    sym (mantissa_length _ _ _ _ c.requires.0.0 c.requires.0.1)
 
-put-scaled-requires : tie.Need-put-scaled-requires
+put-scaled-requires : tie.Need-put_scaled-requires
 put-scaled-requires c κs =
-    (inside _ _ _ (found c), rw (forms.found_form _ _ _ (found c)) at c.before.before.before.before.before.before.before.before.requires.1.1)
+    (inside _ _ _ (found c), rw (forms.found_form _ _ _ (found c)) at c.requires.1.1)
 
-same_length : tie.Need-same-length
+same_length : tie.Need-shape_of-out-in-Zero
 same_length c = search rules
 
-returns : tie.Need-returns
-returns c = rw (zero c.before.before.before.before) c.before.before.put_three.ensures
+returns : tie.Need-returns-in-Zero
+returns c = rw (zero c.before.before.before.before) c.put_three.ensures
 
-returns-2 : tie.Need-returns-2
+returns-2 : tie.Need-returns-in-TooFar
 returns-2 c =
-    clash c.before.before.before.before.before.requires.1.0
-    (forms.far_not_in_range _ _ _ c.before.before.scale.ensures c.enum-told2.given.1)
+    clash c.requires.1.0
+    (forms.far_not_in_range _ _ _ c.scale-scaling.ensures c.in-TooFar.is)
 
-same-length-2 : tie.Need-same-length-2
+same-length-2 : tie.Need-shape_of-out-in-To
 same-length-2 c = search rules
 
-returns-3 : tie.Need-returns-3
-returns-3 c = rw (forms.found_form _ _ _ (found c.before.before.before)) c.before.before.put-scaled.ensures
+returns-3 : tie.Need-returns-in-To
+returns-3 c = rw (forms.found_form _ _ _ (found c.before.before.before)) c.put_scaled.ensures
 
 pub put_float_spec : {M : Type 1} → statement M
 put_float_spec =

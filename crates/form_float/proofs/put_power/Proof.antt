@@ -10,67 +10,63 @@ use Rattle.form_float.proofs.put_power.Statement.{statement}
 use Rattle.form_float.proofs.put_power.Tie as tie
 
 -- what is asked, with a minus sign and without
-room_minus : (c : tie.Then1) → 2 + length (decimal c.before.before.args.r.power) ≤ length c.before.before.args.out.now
-room_minus c = omega (arith, rw c.if1.true at c.before.before.requires)
+room_minus : (c : tie.Then-r) → 2 + length (decimal c.args.r.power) ≤ length c.args.out.now
+room_minus c = omega (arith, rw c.if-r.true at c.requires)
 
-room_bare : (c : tie.Else1) → 1 + length (decimal c.before.before.args.r.power) ≤ length c.before.before.args.out.now
-room_bare c = omega (arith, rw c.if1.false at c.before.before.requires)
+room_bare : (c : tie.Else-r) → 1 + length (decimal c.args.r.power) ≤ length c.args.out.now
+room_bare c = omega (arith, rw c.if-r.false at c.requires)
 
-put-two-requires : tie.Need-put-two-requires
+put-two-requires : tie.Need-put_two-at-requires
 put-two-requires c κs = omega (arith, room_minus c.before)
 
-sub-put-decimal : tie.Need-overflow-sub-put-decimal
-sub-put-decimal c = laws.within c.before.before.put_two.ensures (omega (arith, room_minus c.before.before.before.before))
+sub-put-decimal : tie.Need-slice_bounds-put_decimal-count
+sub-put-decimal c = laws.within c.put_two-at.ensures (omega (arith, room_minus c.before.before.before.before))
 
-part-put-decimal-start : tie.Need-slice-bounds-put-decimal-start
-part-put-decimal-start c = laws.within c.before.before.put_two.ensures (omega (arith, room_minus c.before.before.before.before))
+part-put-decimal-start : tie.Need-slice_bounds-put_decimal-start
+part-put-decimal-start c = laws.within c.put_two-at.ensures (omega (arith, room_minus c.before.before.before.before))
 
-part-put-decimal-end : tie.Need-slice-bounds-put-decimal-end
+part-put-decimal-end : tie.Need-slice_bounds-put_decimal-end
 part-put-decimal-end c = search rules
 
-put-decimal-requires : tie.Need-put-decimal-requires
-put-decimal-requires c κs = laws.room _ c.before.before.before.put_two.ensures (room_minus c.before.before.before.before.before)
+put-decimal-requires : tie.Need-put_decimal-requires
+put-decimal-requires c κs = laws.room _ c.put_two-at.ensures (room_minus c.before.before.before.before.before)
 
-add-result : tie.Need-overflow-add-result
+add-result : tie.Need-overflow_add-result
 add-result c =
-    let t = c.before.before.before.before.before.before in
-    omega (arith, t.put_two.ensures.count, c.before.before.put-decimal.ensures.count, room_minus t.before.before, t.before.before.before.before.well-formed)
+    omega (arith, c.put_two-at.ensures.count, c.put_decimal.ensures.count, room_minus c.before.before.before.before.before.before.before.before, c.well_formed)
 
-same_length : tie.Need-same-length
+same_length : tie.Need-shape_of-out-then-r
 same_length c = search rules
 
-returns : tie.Need-returns
+returns : tie.Need-returns-then-r
 returns c =
-    let t = c.before.before.before.before.before.before in
-    rw t.before.before.if1.true (laws.past t.put_two.ensures c.before.before.put-decimal.ensures (room_minus t.before.before))
+    rw c.if-r.true (laws.past c.put_two-at.ensures c.put_decimal.ensures (room_minus c.before.before.before.before.before.before.before.before))
 
-put-one-requires : tie.Need-put-one-requires
+put-one-requires : tie.Need-put_one-at-requires
 put-one-requires c κs = search rules
 
-sub-put-decimal-2 : tie.Need-overflow-sub-put-decimal-2
+sub-put-decimal-2 : tie.Need-slice_bounds-put_decimal-count-2
 sub-put-decimal-2 c = search rules
 
-part-put-decimal-start-2 : tie.Need-slice-bounds-put-decimal-start-2
+part-put-decimal-start-2 : tie.Need-slice_bounds-put_decimal-start-2
 part-put-decimal-start-2 c = search rules
 
-part-put-decimal-end-2 : tie.Need-slice-bounds-put-decimal-end-2
+part-put-decimal-end-2 : tie.Need-slice_bounds-put_decimal-end-2
 part-put-decimal-end-2 c = search rules
 
-put-decimal-requires-2 : tie.Need-put-decimal-requires-2
-put-decimal-requires-2 c κs = laws.room _ c.before.before.before.put_one.ensures (room_bare c.before.before.before.before.before)
+put-decimal-requires-2 : tie.Need-put_decimal-requires-2
+put-decimal-requires-2 c κs = laws.room _ c.put_one-at.ensures (room_bare c.before.before.before.before.before)
 
-add-result-2 : tie.Need-overflow-add-result-2
+add-result-2 : tie.Need-overflow_add-result-2
 add-result-2 c =
-    let t = c.before.before.before.before.before.before in
-    omega (arith, t.put_one.ensures.count, c.before.before.put-decimal2.ensures.count, room_bare t.before.before, t.before.before.before.before.well-formed)
+    omega (arith, c.put_one-at.ensures.count, c.put_decimal-2.ensures.count, room_bare c.before.before.before.before.before.before.before.before, c.well_formed)
 
-same-length-2 : tie.Need-same-length-2
+same-length-2 : tie.Need-shape_of-out
 same-length-2 c = search rules
 
-returns-2 : tie.Need-returns-2
+returns-2 : tie.Need-returns
 returns-2 c =
-    let t = c.before.before.before.before.before.before in
-    rw t.before.before.if1.false (laws.past t.put_one.ensures c.before.before.put-decimal2.ensures (room_bare t.before.before))
+    rw c.if-r.false (laws.past c.put_one-at.ensures c.put_decimal-2.ensures (room_bare c.before.before.before.before.before.before.before.before))
 
 pub put_power_spec : {M : Type 1} → statement M
 put_power_spec =

@@ -17,43 +17,40 @@ room : (c : tie.Start) →
     length (digits_of (part r.first r.last c.args.mantissa.now)) + length (power_form r) ≤ length c.args.out.now
 room c = omega (arith, simp length-append at c.requires.1)
 
-sub-put-digits : tie.Need-overflow-sub-put-digits
+sub-put-digits : tie.Need-slice_bounds-put_digits-count
 sub-put-digits c = search rules
 
-part-put-digits-start : tie.Need-slice-bounds-put-digits-start
+part-put-digits-start : tie.Need-slice_bounds-put_digits-start
 part-put-digits-start c = search rules
 
-part-put-digits-end : tie.Need-slice-bounds-put-digits-end
+part-put-digits-end : tie.Need-slice_bounds-put_digits-end
 part-put-digits-end c = search rules
 
-put-digits-requires : tie.Need-put-digits-requires
+put-digits-requires : tie.Need-put_digits-at-requires
 put-digits-requires c κs = omega (arith, room c.before.before.before.before)
 
-sub-put-power : tie.Need-overflow-sub-put-power
-sub-put-power c = laws.within c.before.before.put-digits.ensures (omega (arith, room c.before.before.before.before.before.before.before))
+sub-put-power : tie.Need-slice_bounds-put_power-count
+sub-put-power c = laws.within c.put_digits-at.ensures (omega (arith, room c.before.before.before.before.before.before.before))
 
-part-put-power-start : tie.Need-slice-bounds-put-power-start
-part-put-power-start c = laws.within c.before.before.put-digits.ensures (omega (arith, room c.before.before.before.before.before.before.before))
+part-put-power-start : tie.Need-slice_bounds-put_power-start
+part-put-power-start c = laws.within c.put_digits-at.ensures (omega (arith, room c.before.before.before.before.before.before.before))
 
-part-put-power-end : tie.Need-slice-bounds-put-power-end
+part-put-power-end : tie.Need-slice_bounds-put_power-end
 part-put-power-end c = search rules
 
-put-power-requires : tie.Need-put-power-requires
-put-power-requires c κs = laws.room _ c.before.before.before.put-digits.ensures (room c.before.before.before.before.before.before.before.before)
+put-power-requires : tie.Need-put_power-requires
+put-power-requires c κs = laws.room _ c.put_digits-at.ensures (room c.before.before.before.before.before.before.before.before)
 
-add-result : tie.Need-overflow-add-result
+add-result : tie.Need-overflow_add-result
 add-result c =
-    let t = c.before.before.before.before.before.before in
-    let a = t.before.before.before.before.before in
-    omega (arith, t.put-digits.ensures.count, c.before.before.put-power.ensures.count, room a, a.well-formed)
+    omega (arith, c.put_digits-at.ensures.count, c.put_power.ensures.count, room c.before.before.before.before.before.before.before.before.before.before.before, c.well_formed)
 
-same_length : tie.Need-same-length
+same_length : tie.Need-shape_of-out
 same_length c = search rules
 
 returns : tie.Need-returns
 returns c =
-    let t = c.before.before.before.before.before.before in
-    laws.past t.put-digits.ensures c.before.before.put-power.ensures (room t.before.before.before.before.before)
+    laws.past c.put_digits-at.ensures c.put_power.ensures (room c.before.before.before.before.before.before.before.before.before.before.before)
 
 pub put_scaled_spec : {M : Type 1} → statement M
 put_scaled_spec =

@@ -13,43 +13,41 @@ use Rattle.form_value.proofs.byte_run.Statement.{statement}
 use Rattle.form_value.proofs.byte_run.Tie as tie
 
 -- the run from the start is what is passed and the run of the rest
-abbrev invariant_loop : tie.invariant-loop
+abbrev invariant_loop : tie.invariant-loop-i
 invariant_loop s from stop style i₀ i = (from ≤ i) × (i ≤ stop) × (i + run (itself style.verbatim style.quote) (drop i s) ≡ from + run (itself style.verbatim style.quote) (drop from s))
 
-abbrev decreases_loop : tie.decreases-loop
+abbrev decreases_loop : tie.decreases-loop-i
 decreases_loop s from stop style i₀ i = stop - i
 
-there : (b : tie.In-loop invariant_loop decreases_loop) → b.before.loop.i < length b.before.before.before.args.s.now
+there : (b : tie.In-loop-i invariant_loop decreases_loop) → b.loop-i.i < length b.args.s.now
 there b = omega arith
 
-loop-holds : tie.Need-loop-init invariant_loop decreases_loop
+loop-holds : tie.Need-loop-i-init invariant_loop decreases_loop
 loop-holds c = (search rules, search rules, refl)
 
-shared-slice-read-is-itself : tie.Need-shared-slice-read-is-itself invariant_loop decreases_loop
+shared-slice-read-is-itself : tie.Need-bounds-s-i invariant_loop decreases_loop
 shared-slice-read-is-itself c = search rules
 
-is-itself-requires : tie.Need-is-itself-requires invariant_loop decreases_loop
+is-itself-requires : tie.Need-is_itself-requires invariant_loop decreases_loop
 is-itself-requires c κs = search rules
 
-returns : tie.Need-returns invariant_loop decreases_loop
+returns : tie.Need-returns-then-not-is_itself invariant_loop decreases_loop
 returns c =
-    let b = c.before.before.before in
-    let a = b.before.before.before.args in
-    omega (arith, run_stop (itself a.style.verbatim a.style.quote) a.s.now _ (there b) (sym c.before.is_itself.ensures ∙ not-true _ c.if1.true), b.before.loop.invariant)
+    let a = c.args in
+    omega (arith, run_stop (itself a.style.verbatim a.style.quote) a.s.now _ (there c.before.before.before) (sym c.is_itself.ensures ∙ not-true _ c.if-not-is_itself.true-raw), c.loop-i.invariant)
 
-add-i : tie.Need-overflow-add-i invariant_loop decreases_loop
+add-i : tie.Need-overflow_add-i invariant_loop decreases_loop
 add-i c = search rules
 
-loop-less : tie.Need-loop-smaller invariant_loop decreases_loop
+loop-less : tie.Need-loop-i-smaller invariant_loop decreases_loop
 loop-less c = search rules
 
-loop-again : tie.Need-loop-preserved invariant_loop decreases_loop
+loop-again : tie.Need-loop-i-preserved invariant_loop decreases_loop
 loop-again c =
-    let b = c.before.before.before in
-    (search rules, search rules, sym (run_more _ _ _ (there b) (sym c.before.is_itself.ensures ∙ not-false _ c.if1.false)) ∙ b.before.loop.invariant.2)
+    (search rules, search rules, sym (run_more _ _ _ (there c.before.before.before) (sym c.is_itself.ensures ∙ not-false _ c.if-not-is_itself.false-raw)) ∙ c.loop-i.invariant.2)
 
-returns-2 : tie.Need-returns-2 invariant_loop decreases_loop
-returns-2 c = omega (arith, c.before.loop.invariant)
+returns-2 : tie.Need-returns invariant_loop decreases_loop
+returns-2 c = omega (arith, c.loop-i.invariant)
 
 pub byte_run_spec : {M : Type 1} → statement M
 byte_run_spec =

@@ -10,68 +10,62 @@ use borrow.Author.Rules.{rules}
 use Rattle.literal.proofs.value.Statement.{statement}
 use Rattle.literal.proofs.value.Tie as tie
 
-from-code-requires : tie.Need-from-code-requires
+from-code-requires : tie.Need-from_code-found-requires
 from-code-requires c κs = search rules
 
-enum-known-found : tie.Need-enum-known-found
+enum-known-found : tie.Need-enum_known-found
 enum-known-found c = search rules
 
-enum_told : tie.Need-enum-told
+enum_told : tie.Need-enum_told-1
 enum_told c = search rules
 
-returns : tie.Need-returns
+returns : tie.Need-returns-in_default
 unfolding value_at
-returns c = (rw (← c.before.before.from-code.ensures, c.enum_told.given.1), refl)
+returns c = (rw (← c.from_code-found.ensures, c.in_default.is), refl)
 
-largest-requires : tie.Need-largest-requires
+largest-requires : tie.Need-largest-limit-requires
 largest-requires c κs = search rules
 
-enum-known-limit : tie.Need-enum-known-limit
+enum-known-limit : tie.Need-enum_known-limit
 enum-known-limit c = search rules
 
-enum-told-2 : tie.Need-enum-told-2
+enum-told-2 : tie.Need-enum_told-in_default-limit
 enum-told-2 c = search rules
 
-returns-2 : tie.Need-returns-2
+returns-2 : tie.Need-returns-in_default-limit
 unfolding value_at
-returns-2 c = let a = c.before.before.before.before in
-    (rw (← a.before.before.from-code.ensures, a.found.given.1, ← c.before.before.largest.ensures, c.enum-told2.given.1), refl)
+returns-2 c = (rw (← c.from_code-found.ensures, c.in-Type.is, ← c.largest-limit.ensures, c.in_default-limit.is), refl)
 
 -- the code stands for a type with a largest value
-typed : (c : tie.After-known-told2) →
-    let a = c.before.before.before.before.before.before.before.before.before.args in
-    value_at a.code a.text.now ≡ checked_value c.before.limit.given.0.0 a.text.now
+typed : (c : tie.In-Value) →
+    let a = c.args in
+    value_at a.code a.text.now ≡ checked_value c.in-Value.largest a.text.now
 unfolding value_at
 typed c =
-    let b = c.before in
-    let l = b.before.before in
-    let a = l.before.before in
-    rw (← a.before.before.from-code.ensures, a.found.given.1, ← l.largest.ensures, b.limit.given.1)
+    rw (← c.from_code-found.ensures, c.in-Type.is, ← c.largest-limit.ensures, c.in-Value.is)
 
-read-requires : tie.Need-read-requires
+read-requires : tie.Need-read-reading-requires
 read-requires c κs = search rules
 
-enum-known-reading : tie.Need-enum-known-reading
+enum-known-reading : tie.Need-enum_known-reading
 enum-known-reading c = search rules
 
-refused-value-requires : tie.Need-refused-value-requires
+refused-value-requires : tie.Need-refused_value-requires
 refused-value-requires c κs = search rules
 
-returns-3 : tie.Need-returns-3
-returns-3 c = let r = c.before.before in
-    (c.refused-value.ensures ∙ value_refused _ _ r.read.result r.read.ensures.0 c.before.match3.keys2 ∙ sym (typed r.before), refl)
+returns-3 : tie.Need-returns-in_default-reading
+returns-3 c = (c.refused_value.ensures ∙ value_refused _ _ c.read-reading.result c.read-reading.ensures.0 c.in_default-reading.in_default-reading-own.keys2 ∙ sym (typed c.before.before.before), refl)
 
 -- the text reads as this integer
-integer : (c : tie.After-reading) →
-    read_at 2 c.before.before.before.before.before.before.before.before.before.before.before.before.args.text.now ≡ outcome_of (reading.Integer c.reading.given.0.0)
-integer c = sym c.before.before.read.ensures.0 ∙ ap outcome_of c.reading.given.1
+integer : (c : tie.In-Integer) →
+    read_at 2 c.args.text.now ≡ outcome_of (reading.Integer c.in-Integer.lit)
+integer c = sym c.read-reading.ensures.0 ∙ ap outcome_of c.in-Integer.is
 
-value-of-requires : tie.Need-value-of-requires
-value-of-requires c κs = value_ends 0 _ (integer c.before)
+value-of-requires : tie.Need-value_of-requires
+value-of-requires c κs = value_ends 0 _ (integer c)
 
-returns-4 : tie.Need-returns-4
-returns-4 c = let r = c.before.before in
-    (rw (typed r.before.before.before) (c.value_of_lem.ensures ∙ value_given _ _ (integer r)), refl)
+returns-4 : tie.Need-returns
+returns-4 c = (rw (typed c.before.before.before) (c.value_of.ensures ∙ value_given _ _ (integer c.before)), refl)
 
 pub value_spec : {M : Type 1} → statement M
 value_spec =

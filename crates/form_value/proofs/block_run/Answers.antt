@@ -1,0 +1,15 @@
+-- `form_value::block_run` meets its contract.
+-- Assumes nothing.
+use Prim.Native.Nat.{◌-◌}
+use Rattle.body_plain.proofs.Blocks.{least_start, least_more, least_end}
+use Rattle.form_value.proofs.block_run.Goals as goal
+
+pub loop-j-init : goal.loop-j-init
+loop-j-init c = least_start _ _ _ c.requires
+
+pub loop-j-preserved : goal.loop-j-preserved
+loop-j-preserved c =
+    least_more _ _ _ c.requires _ _ _ _ c.loop-j.invariant c.loop-j-test.true c.place.ensures c.smaller-m.ensures
+
+pub returns : goal.returns
+returns c = least_end _ _ _ c.requires _ _ c.loop-j.invariant c.loop-j-test.false
