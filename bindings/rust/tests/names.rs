@@ -13,10 +13,10 @@ fn names_of_refusals() {
     );
     let text = std::fs::read_to_string(definition).unwrap();
     let mut number = 0;
-    // A line is `numberOf Empty = 1`.
+    // A line is `number_of Empty = 1`.
     for row in text
         .lines()
-        .filter_map(|line| line.strip_prefix("numberOf "))
+        .filter_map(|line| line.strip_prefix("number_of "))
     {
         let (kind, told) = row.split_once(" = ").unwrap();
         number += 1;
