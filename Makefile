@@ -9,13 +9,16 @@ PREFIX = /usr/local
 prefix = $(abspath $(PREFIX))
 to = $(DESTDIR)$(prefix)
 
+# For every x86-64 processor; without this rt builds for x86-64-v2.
+CPU = --cpu=x86-64
+
 # rt run leaves the program in the crate's out/, once it is proved; here it is run on no bytes.
 all: lib
-	cd crates/keybasket && rt run </dev/null >/dev/null
+	cd crates/keybasket && rt run $(CPU) </dev/null >/dev/null
 	cp crates/keybasket/out/keybasket dist/keybasket
 
 lib:
-	cd crates/c_api_c && rt lib
+	cd crates/c_api_c && rt lib $(CPU)
 	mkdir -p dist
 	cp crates/c_api_c/out/libc_api_c.a dist/libkeybasket.a
 	cp include/keybasket.h dist/keybasket.h
