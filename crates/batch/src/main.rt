@@ -1,11 +1,14 @@
 // Takes a batch of records from standard input (docs/BATCH.md) and prints one line for each.
 #![tactic(auto)]
 
-ghost use Rattle.std.specs.Prelude.{◌≡◌, false, ◌+◌, ◌*◌, ◌≤◌, ◌<◌, length};
+ghost use Rattle.std.specs.Prelude.{◌≡◌, false, true, ◌+◌, ◌*◌, ◌≤◌, ◌<◌, ◌⊎◌, length, take, IfOk, OnErr};
+ghost use Rattle.std.specs.Io.{ReadsAtMost};
+ghost use Rattle.std.specs.Io.KnownBytes.{Consumes, IsAtEnd};
 ghost use Rattle.buffer.specs.Buffer.{over};
 ghost use Rattle.batch.specs.Record.{number_at, head_line, head_buffer, Recorded, Lent};
 
-use libc::{STDIN_FILENO, STDOUT_FILENO};
+use std::io;
+use std::io::{Read, Write};
 
 // A byte as a usize.
 fn widen(x: u8) -> usize
@@ -25,61 +28,107 @@ fn number_at(head: &[u8; 10], at: usize) -> usize
         + 16777216 * widen(head[at + 3])
 }
 
-// A record that breaks off or is too large: no other follows.
-fn bad_record() -> bool
-    ensures { result ≡ false }
+// Reads until buf is full or the input ends, and returns how many bytes it put at the start of buf.
+fn read_full<R: Read>(input: &mut R, buf: &mut [u8]) -> io::Result<usize>
+    ensures bound { ReadsAtMost result buf.new }
+    ensures bytes { IfOk result (λ n. Consumes (R.remaining input.old) (R.remaining input.new) (take n buf.new)) }
+    ensures end { IfOk result (λ n. n < length buf.old → IsAtEnd (R.remaining input.new)) }
 {
-    io::write_all(STDOUT_FILENO, b"bad record\n");
-    false
+    let mut done = 0;
+    while done < buf.len() {
+        let n = input.read(&mut buf[done..])?;
+        if n == 0 {
+            return Ok(done);
+        }
+        done += n;
+    }
+    Ok(done)
 }
 
-// The line of a record with this head and text is made and printed.
-fn print_record(line: &mut [u8], head: &[u8; 10], text: &[u8], out: &mut [u8])
+// A record that breaks off or is too large: no other follows.
+fn bad_record<W: Write>(output: &mut W) -> io::Result<bool>
+    ensures { IfOk result (λ more. more ≡ false) }
+{
+    output.write_all(b"bad record\n")?;
+    Ok(false)
+}
+
+// The line of a record with this head and text is made and printed. It stands in `line` also where a write failed.
+fn print_record<W: Write>(
+    output: &mut W,
+    line: &mut [u8],
+    head: &[u8; 10],
+    text: &[u8],
+    out: &mut [u8],
+) -> io::Result<()>
     requires { (number_at head.now 2 ≤ length out.old) × (192 + 2 * length out.old ≤ length line.old) }
     ensures line_after { line.new ≡ over (head_line head.now text.now) line.old }
     ensures out_after { out.new ≡ head_buffer head.now text.now out.old }
 {
     let lent = number_at(head, 2);
     let end = batch_record::record_line(line, head[0], head[1], text, &mut out[0..lent]);
-    io::write_all(STDOUT_FILENO, &line[0..end]);
+    output.write_all(&line[0..end])
 }
 
-// One record: its head is read, then its text, and its line is printed. Whether there may be another.
-fn record(line: &mut [u8], head: &mut [u8; 10], text: &mut [u8], out: &mut [u8]) -> bool
+// One record: its head is read, then its text, and its line is printed. Whether there may be another. Where a read or a write failed, the line was made
+// as it is on Ok, or none was.
+fn record<R: Read, W: Write>(
+    input: &mut R,
+    output: &mut W,
+    line: &mut [u8],
+    head: &mut [u8; 10],
+    text: &mut [u8],
+    out: &mut [u8],
+) -> io::Result<bool>
     requires { 192 + 2 * length out.old ≤ length line.old }
-    ensures recorded { Recorded result head.new text.new line.old line.new }
-    ensures lent { Lent result head.new text.new out.old out.new }
+    ensures recorded { IfOk result (λ more. Recorded more head.new text.new line.old line.new) }
+    ensures lent { IfOk result (λ more. Lent more head.new text.new out.old out.new) }
+    ensures err { OnErr result (
+        (Recorded false head.new text.new line.old line.new × Lent false head.new text.new out.old out.new)
+        ⊎ (Recorded true head.new text.new line.old line.new × Lent true head.new text.new out.old out.new)) }
 {
-    let got = io::read_full(STDIN_FILENO, head);
+    let got = read_full(input, head)?;
     if got == 0 {
-        return false;
+        return Ok(false);
     }
     if got < 10 {
-        return bad_record();
+        return bad_record(output);
     }
     let lent = number_at(head, 2);
     let n = number_at(head, 6);
     if out.len() < lent {
-        return bad_record();
+        return bad_record(output);
     }
     if text.len() < n {
-        return bad_record();
+        return bad_record(output);
     }
-    let read = io::read_full(STDIN_FILENO, &mut text[0..n]);
+    let read = read_full(input, &mut text[0..n])?;
     if read < n {
-        return bad_record();
+        return bad_record(output);
     }
-    print_record(line, head, &text[0..n], out);
-    true
+    print_record(output, line, head, &text[0..n], out)?;
+    Ok(true)
 }
 
-fn main() {
+fn main(rt: HostRuntime) -> io::Result<()> {
     let mut line = [0u8; 131456];
     let mut head = [0u8; 10];
     let mut text = [0u8; 65600];
     let mut out = [0u8; 65600];
+    let mut input = rt.stdin();
+    let mut output = rt.stdout();
     let mut turns = u64::MAX;
-    while turns > 0 && record(&mut line, &mut head, &mut text, &mut out) {
+    while turns > 0
+        && record(
+            &mut input,
+            &mut output,
+            &mut line,
+            &mut head,
+            &mut text,
+            &mut out,
+        )?
+    {
         turns -= 1;
     }
+    Ok(())
 }
