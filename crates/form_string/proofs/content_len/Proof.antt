@@ -12,72 +12,66 @@ use Rattle.form_string.proofs.content_len.Statement.{statement}
 use Rattle.form_string.proofs.content_len.Tie as tie
 
 -- where the value stands, by the case
-as_is : (c : tie.After-known-told) → let a = c.before.before.before.before.before.args in let g = c.before.inner.given.0 in
-    Stands a.k a.text.now (string_value a.k a.text.now) (AsItIs g.0 g.1.0)
+as_is : (c : tie.In-AsItIs) → let a = c.args in Stands a.k a.text.now (string_value a.k a.text.now) (AsItIs c.in-AsItIs.start c.in-AsItIs.end)
 as_is c =
-    let i = c.before.before.before in
-    stands_in _ _ i.before.before.args.lit i.before.before.requires.1 (sym i.inner-range.ensures ∙ c.before.inner.given.1)
+    stands_in _ _ c.args.lit c.requires.1 (sym c.inner_range-inner.ensures ∙ c.in-AsItIs.is)
 
-escaped : (c : tie.After-known-told2) → let a = c.before.before.before.before.before.args in
-    Stands a.k a.text.now (string_value a.k a.text.now) (Escaped c.before.inner2.given.0.0)
+escaped : (c : tie.In-Escaped) → let a = c.args in
+    Stands a.k a.text.now (string_value a.k a.text.now) (Escaped c.in-Escaped.start)
 escaped c =
-    let i = c.before.before.before in
-    stands_in _ _ i.before.before.args.lit i.before.before.requires.1 (sym i.inner-range.ensures ∙ c.before.inner2.given.1)
+    stands_in _ _ c.args.lit c.requires.1 (sym c.inner_range-inner.ensures ∙ c.in-Escaped.is)
 
-inner-range-requires : tie.Need-inner-range-requires
-inner-range-requires c κs = omega (arith, len_inside _ _ c.before.args.lit c.before.requires.1, c.before.requires.0)
+inner-range-requires : tie.Need-inner_range-inner-requires
+inner-range-requires c κs = omega (arith, len_inside _ _ c.args.lit c.requires.1, c.requires.0)
 
-enum-known-inner : tie.Need-enum-known-inner
+enum-known-inner : tie.Need-enum_known-inner
 enum-known-inner c = search rules
 
-sub-forms-len : tie.Need-overflow-sub-forms-len
+sub-forms-len : tie.Need-slice_bounds-forms_len-count
 sub-forms-len c = (as_is c).0
 
-part-forms-len-start : tie.Need-slice-bounds-forms-len-start
+part-forms-len-start : tie.Need-slice_bounds-forms_len-start
 part-forms-len-start c = (as_is c).0
 
-part-forms-len-end : tie.Need-slice-bounds-forms-len-end
+part-forms-len-end : tie.Need-slice_bounds-forms_len-end
 part-forms-len-end c = (as_is c).1
 
-style-of-requires : tie.Need-style-of-requires
+style-of-requires : tie.Need-style_of-requires
 style-of-requires c κs = search rules
 
-forms-len-requires : tie.Need-forms-len-requires
+forms-len-requires : tie.Need-forms_len-requires
 forms-len-requires c κs = simp (length-take, length-drop) (omega arith)
 
-enum-known-inner-2 : tie.Need-enum-known-inner-2
+enum-known-inner-2 : tie.Need-enum_known-inner-in-Escaped-1
 enum-known-inner-2 c = search rules
 
-sub-body-len : tie.Need-overflow-sub-body-len
+sub-body-len : tie.Need-slice_bounds-body_len-count
 sub-body-len c = (escaped c).0
 
-part-body-len-start : tie.Need-slice-bounds-body-len-start
+part-body-len-start : tie.Need-slice_bounds-body_len-start
 part-body-len-start c = (escaped c).0
 
-part-body-len-end : tie.Need-slice-bounds-body-len-end
+part-body-len-end : tie.Need-slice_bounds-body_len-end
 part-body-len-end c = search rules
 
-style-of-requires-2 : tie.Need-style-of-requires-2
+style-of-requires-2 : tie.Need-style_of-requires-in-Escaped
 style-of-requires-2 c κs = search rules
 
-body-len-requires : tie.Need-body-len-requires
+body-len-requires : tie.Need-body_len-requires
 body-len-requires c κs = search rules
 
-returns : tie.Need-returns
+returns : tie.Need-returns-in-AsItIs
 returns c =
-    let s = c.before.style-of.ensures in
-    let i = c.before.before.before in (
-      rw (as_is i).2 (rw (s.0, s.1) at c.forms-len.ensures.0),
-      omega (arith, simp (length-take, length-drop) at c.forms-len.ensures.1, i.before.before.before.before.before.requires.0),
+    let s = c.style_of.ensures in (
+      rw (as_is c.before.before.before).2 (rw (s.0, s.1) at c.forms_len.ensures.0),
+      omega (arith, simp (length-take, length-drop) at c.forms_len.ensures.1, c.requires.0),
     )
 
-returns-2 : tie.Need-returns-2
+returns-2 : tie.Need-returns-in-Escaped
 returns-2 c =
-    let s = c.before.style-of2.ensures in
-    let i = c.before.before.before in
-    let b = i.before.before.before.before.before in (
-      rw (escaped i).1 (rw (s.0, s.1, part_to_end) at c.body-len.ensures.0),
-      omega (arith, rw part_to_end at c.body-len.ensures.1, length-drop i.before.inner2.given.0.0 b.args.text.now, b.requires.0),
+    let s = c.style_of-in-Escaped.ensures in (
+      rw (escaped c.before.before.before).1 (rw (s.0, s.1, part_to_end) at c.body_len.ensures.0),
+      omega (arith, rw part_to_end at c.body_len.ensures.1, length-drop c.in-Escaped.start c.args.text.now, c.requires.0),
     )
 
 pub content_len_spec : {M : Type 1} → statement M
