@@ -73,7 +73,7 @@ same_length c = search rules
 returns : tie.Need-returns-in-AsItIs
 returns c =
     let s = c.style_of.ensures in
-    rw (as_is b.before.before).2 (rw (s.0, s.1) at c.put_forms.ensures)
+    rw (as_is c.before.before.before.before.before).2 (rw (s.0, s.1) at c.put_forms.ensures)
 
 same-length-2 : tie.Need-shape_of-out-in-Escaped
 same-length-2 c = search rules
@@ -81,7 +81,7 @@ same-length-2 c = search rules
 returns-2 : tie.Need-returns-in-Escaped
 returns-2 c =
     let s = c.style_of-in-Escaped.ensures in
-    rw (escaped b.before.before).1 (rw (s.0, s.1, part_to_end) at c.put_body.ensures)
+    rw (escaped c.before.before.before.before.before).1 (rw (s.0, s.1, part_to_end) at c.put_body.ensures)
 
 pub put_content_spec : {M : Type 1} → statement M
 put_content_spec =

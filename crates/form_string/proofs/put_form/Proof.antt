@@ -46,7 +46,7 @@ joined : (c : tie.After-put_content) →
     let o = c.put_opening-start in
     Wrote (opening_of a.k ++ styled_forms (verbatim_in a.k) 34 (string_value a.k a.text.now))
     (o.result + c.put_content.result) a.out.now
-    (put_mid o.result (length o.new.0 - o.result) o.new.0 c.put_content.new.out)
+    (put_mid o.result (length o.new.out - o.result) o.new.out c.put_content.new.out)
 joined c =
     laws.past c.put_opening-start.ensures c.put_content.ensures (omega (arith, fits c.before.before.before.before.before.before.before))
 
