@@ -16,59 +16,59 @@ use Rattle.batch_record.proofs.put_decoding.Statement.{statement}
 use Rattle.batch_record.proofs.put_decoding.Tie as tie
 
 -- what decoding came to, in each arm
-written_is : (c : tie.After-d2) →
-    let a = c.before.before.before.before.before.before.before.before.before.args in
-    decode_at a.code a.text.now (length a.out.now) ≡ written c.d2.given.0.0
-written_is c = sym c.before.before.before.before.decode.ensures.0 ∙ ap decoded_of c.d2.given.1
+written_is : (c : tie.In-Written) →
+    let a = c.args in
+    decode_at a.code a.text.now (length a.out.now) ≡ written c.in-Written.n
+written_is c = sym c.decode-d.ensures.0 ∙ ap decoded_of c.in-Written.is
 
-refused_is : (c : tie.After-d) →
-    let a = c.before.before.before.before.before.before.before.before.before.args in
-    decode_at a.code a.text.now (length a.out.now) ≡ refusal (number_of c.d.given.0.0) (place_of c.d.given.0.1.0)
-refused_is c = sym c.before.before.before.before.decode.ensures.0 ∙ ap decoded_of c.d.given.1
+refused_is : (c : tie.In-Refused) →
+    let a = c.args in
+    decode_at a.code a.text.now (length a.out.now) ≡ refusal (number_of c.in-Refused.kind) (place_of c.in-Refused.span)
+refused_is c = sym c.decode-d.ensures.0 ∙ ap decoded_of c.in-Refused.is
 
-decode-requires : tie.Need-decode-requires
+decode-requires : tie.Need-decode-d-requires
 decode-requires c κs = search rules
 
-enum-known-d : tie.Need-enum-known-d
+enum-known-d : tie.Need-enum_known-d
 enum-known-d c = search rules
 
-put-refused-requires : tie.Need-put-refused-requires
+put-refused-requires : tie.Need-put_refused-requires
 put-refused-requires c κs = search rules
 
-enum-known-d-2 : tie.Need-enum-known-d-2
+enum-known-d-2 : tie.Need-enum_known-d-in-Written-1
 enum-known-d-2 c = search rules
 
-put-ok-requires : tie.Need-put-ok-requires
+put-ok-requires : tie.Need-put_ok-at-requires
 put-ok-requires c κs = search rules
 
-add-written-requires : tie.Need-add-written-requires
-add-written-requires c κs = omega (arith, laws.decoded_fits _ _ _ (written_is c.before.before.before.before.before.before.before), c.before.before.before.before.put-ok.ensures.1, c.before.before.before.before.before.before.before.before.before.before.before.before.before.before.before.before.requires)
+add-written-requires : tie.Need-add_written-requires
+add-written-requires c κs = omega (arith, laws.decoded_fits _ _ _ (written_is c.before.before.before.before.before), c.put_ok-at.ensures.1, c.requires)
 
-same_length : tie.Need-same-length
+same_length : tie.Need-shape_of-line-in-Refused
 same_length c = search rules
 
-same-length-2 : tie.Need-same-length-2
+same-length-2 : tie.Need-shape_of-out-in-Refused
 same-length-2 c = search rules
 
-returns : tie.Need-returns
+returns : tie.Need-returns-in-Refused
 unfolding decoding_line
 returns c =
-    let d = c.before.before.before.before.before.before.before.before.before.before.decode.ensures in
-    ((rw (refused_is c.before.before.before.before.before.before, ← d.1.0) c.before.before.Put-refused.ensures.0, omega (arith, c.before.before.Put-refused.ensures.1)), d.1.0)
+    let d = c.decode-d.ensures in
+    ((rw (refused_is c.before.before.before.before, ← d.1.0) c.put_refused.ensures.0, omega (arith, c.put_refused.ensures.1)), d.1.0)
 
-same-length-3 : tie.Need-same-length-3
+same-length-3 : tie.Need-shape_of-line-in-Written
 same-length-3 c = search rules
 
-same-length-4 : tie.Need-same-length-4
+same-length-4 : tie.Need-shape_of-out-in-Written
 same-length-4 c = search rules
 
-returns-2 : tie.Need-returns-2
+returns-2 : tie.Need-returns-in-Written
 unfolding decoding_line
 returns-2 c =
-    let d = c.before.before.before.before.before.before.before.before.before.before.before.before.before.before.decode.ensures in
-    let p = c.before.before.before.before.before.before.before.put-ok.ensures in
-    let q = c.before.before.add-written.ensures in
-    ((rw (written_is c.before.before.before.before.before.before.before.before.before.before, ← d.1.0) (lines.also p.0 q.0), omega (arith, p.1, q.1, laws.decoded_fits _ _ _ (written_is c.before.before.before.before.before.before.before.before.before.before))), d.1.0)
+    let d = c.decode-d.ensures in
+    let p = c.put_ok-at.ensures in
+    let q = c.add_written.ensures in
+    ((rw (written_is c.before.before.before.before.before.before.before.before, ← d.1.0) (lines.also p.0 q.0), omega (arith, p.1, q.1, laws.decoded_fits _ _ _ (written_is c.before.before.before.before.before.before.before.before))), d.1.0)
 
 pub put_decoding_spec : {M : Type 1} → statement M
 put_decoding_spec =

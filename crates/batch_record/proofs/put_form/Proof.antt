@@ -12,52 +12,52 @@ use Rattle.batch_record.proofs.put_form.Statement.{statement}
 use Rattle.batch_record.proofs.put_form.Tie as tie
 
 -- what settling came to, in each arm
-formed_is : (c : tie.After-s2) →
-    let a = c.before.before.before.before.before.before.before.before.before.args in
-    settle_at a.text.now (length a.out.now) ≡ formed c.s2.given.0.0 c.s2.given.0.1.0
-formed_is c = sym c.before.before.before.before.settle.ensures.0 ∙ ap settled_of c.s2.given.1
+formed_is : (c : tie.In-Formed) →
+    let a = c.args in
+    settle_at a.text.now (length a.out.now) ≡ formed c.in-Formed.kind c.in-Formed.n
+formed_is c = sym c.settle-s.ensures.0 ∙ ap settled_of c.in-Formed.is
 
-refused_is : (c : tie.After-s) →
-    let a = c.before.before.before.before.before.before.before.before.before.args in
-    settle_at a.text.now (length a.out.now) ≡ refusal (number_of c.s.given.0.0) (place_of c.s.given.0.1.0)
-refused_is c = sym c.before.before.before.before.settle.ensures.0 ∙ ap settled_of c.s.given.1
+refused_is : (c : tie.In-Refused) →
+    let a = c.args in
+    settle_at a.text.now (length a.out.now) ≡ refusal (number_of c.in-Refused.kind) (place_of c.in-Refused.span)
+refused_is c = sym c.settle-s.ensures.0 ∙ ap settled_of c.in-Refused.is
 
-settle-requires : tie.Need-settle-requires
+settle-requires : tie.Need-settle-s-requires
 settle-requires c κs = search rules
 
-enum-known-s : tie.Need-enum-known-s
+enum-known-s : tie.Need-enum_known-s
 enum-known-s c = search rules
 
-put-refusal-requires : tie.Need-put-refusal-requires
+put-refusal-requires : tie.Need-put_refusal-requires
 put-refusal-requires c κs = search rules
 
-enum-known-s-2 : tie.Need-enum-known-s-2
+enum-known-s-2 : tie.Need-enum_known-s-in-Formed-1
 enum-known-s-2 c = search rules
 
-put-formed-requires : tie.Need-put-formed-requires
-put-formed-requires c κs = omega (arith, laws.settled_fits _ _ (formed_is c.before.before.before), c.before.before.before.before.before.before.before.before.before.before.before.before.requires)
+put-formed-requires : tie.Need-put_formed-requires
+put-formed-requires c κs = omega (arith, laws.settled_fits _ _ (formed_is c.before), c.requires)
 
-same_length : tie.Need-same-length
+same_length : tie.Need-shape_of-line-in-Refused
 same_length c = search rules
 
-same-length-2 : tie.Need-same-length-2
+same-length-2 : tie.Need-shape_of-out-in-Refused
 same-length-2 c = search rules
 
-returns : tie.Need-returns
-returns c = ((rw (refused_is c.before.before.before.before.before) c.before.before.put-refusal.ensures.0, omega (arith, c.before.before.put-refusal.ensures.1)), c.before.before.before.before.before.before.before.before.before.settle.ensures.1.0)
+returns : tie.Need-returns-in-Refused
+returns c = ((rw (refused_is c.before.before.before.before) c.put_refusal.ensures.0, omega (arith, c.put_refusal.ensures.1)), c.settle-s.ensures.1.0)
 
-same-length-3 : tie.Need-same-length-3
+same-length-3 : tie.Need-shape_of-line-in-Formed
 same-length-3 c = search rules
 
-same-length-4 : tie.Need-same-length-4
+same-length-4 : tie.Need-shape_of-out-in-Formed
 same-length-4 c = search rules
 
-returns-2 : tie.Need-returns-2
+returns-2 : tie.Need-returns-in-Formed
 returns-2 c =
-    let d = c.before.before.before.before.before.before.before.before.before.before.settle.ensures in
-    let a = c.before.before.before.before.before.before.before.before.before.before.before.before.before.before.before.args in
-    let p = c.before.before.put-formed.ensures in
-    ((rw (formed_is c.before.before.before.before.before.before, ← laws.form_written a.text.now a.out.now (formed_is c.before.before.before.before.before.before), ← d.1.0) p.0, omega (arith, p.1, laws.settled_fits _ _ (formed_is c.before.before.before.before.before.before))), d.1.0)
+    let d = c.settle-s.ensures in
+    let a = c.args in
+    let p = c.put_formed.ensures in
+    ((rw (formed_is c.before.before.before.before, ← laws.form_written a.text.now a.out.now (formed_is c.before.before.before.before), ← d.1.0) p.0, omega (arith, p.1, laws.settled_fits _ _ (formed_is c.before.before.before.before))), d.1.0)
 
 pub put_form_spec : {M : Type 1} → statement M
 put_form_spec =
