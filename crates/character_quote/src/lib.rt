@@ -158,6 +158,7 @@ pub fn plain(text: &[u8], at: usize, q: Quote) -> Inner
 }
 
 // Whether LF, tab or CR stands there.
+#[tactic(auto, unfolding(crate::specs::Content::special))]
 pub fn is_special(b: u8) -> bool
     ensures { result ≡ special b }
 {
