@@ -1,4 +1,4 @@
-use Rattle.std.proofs.Common.{rules, arith, ◌≡◌, ◌-◌, length, take, length-take, ◌∙◌}
+use Rattle.std.proofs.Common.{arith, ◌≡◌, ◌-◌, length, take, length-take, ◌∙◌}
 use Rattle.batch_line.proofs.Laws as lines
 use Rattle.batch.specs.Record.{number_at, head_line, head_buffer}
 use Rattle.batch.proofs.print_record.Goals as goal
