@@ -71,6 +71,9 @@ def own_names(texts):
 
 
 def main(argv):
+    if [it for it in argv if it != "--list"]:
+        print(__doc__)
+        return 2
     proofs = files("crates/*/specs/**/*.antt", "crates/*/proofs/**/*.antt")
     texts = {f: read(f) for f in proofs}
     own, library, answers = own_names(texts)
@@ -106,6 +109,9 @@ def main(argv):
             print(f"{name} -> {new[name]}")
         print("\n".join(["", "these fall together:", *together, "", "of the library too, and kept:", *kept]))
         return 0
+    if not any(re.match("[a-z]+[A-Z]", name) for name in new):
+        print("respell: no name is in camel case, so this ran before: nothing was written")
+        return 1
     fields = {m.group(1) for t in texts.values() for m in FIELD.finditer(t)}
     plain = lambda m: new.get(m.group(0), m.group(0))
     in_comment = lambda m: m.group(0) if "-" in m.group(0) else plain(m)

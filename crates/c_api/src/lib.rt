@@ -32,9 +32,9 @@ fn settle_result(answer: Settled) -> usize
 
 // The settled form of a text, written to the front of out: its length, or 100,000 plus the refusal number.
 pub fn keybasket_settle(text: &[u8], out: &mut [u8]) -> usize
-    ensures value { result ≡ return_value (λ form. form.1) (settle_at text.now (length out.old)) }
+    ensures answer { result ≡ return_value (λ form. form.1) (settle_at text.now (length out.old)) }
     ensures out_after { out.new ≡ settle_buffer text.now out.old }
-    ensures text_value { text.exit.now ≡ text.entry.now }
+    ensures text_unchanged { text.exit.now ≡ text.entry.now }
 {
     settle_result(settle::settle(text, out))
 }
@@ -51,18 +51,18 @@ fn decode_result(answer: Decoded) -> usize
 
 // The decoded bytes of a text by entry code 5, 7 or 8, written to the front of out: their number, or 100,000 plus the refusal number.
 pub fn keybasket_decode(entry: u64, text: &[u8], out: &mut [u8]) -> usize
-    ensures value { result ≡ return_value (λ n. n) (decode_at entry text.now (length out.old)) }
+    ensures answer { result ≡ return_value (λ n. n) (decode_at entry text.now (length out.old)) }
     ensures out_after { out.new ≡ decodes.decode_buffer entry text.now out.old }
-    ensures text_value { text.exit.now ≡ text.entry.now }
+    ensures text_unchanged { text.exit.now ≡ text.entry.now }
 {
     decode_result(literal::decode(entry, text, out))
 }
 
 // The value of an integer literal at a type code, written to value: 0, or 100,000 plus the refusal number, and then value keeps what it held.
 pub fn keybasket_value(ty: u64, text: &[u8], value: &mut u64) -> usize
-    ensures value { result ≡ return_value (λ v. 0) (value_at ty text.now) }
-    ensures value_after { value.new ≡ value_after (value_at ty text.now) value.old }
-    ensures text_value { text.exit.now ≡ text.entry.now }
+    ensures answer { result ≡ return_value (λ v. 0) (value_at ty text.now) }
+    ensures value_left { value.new ≡ value_after (value_at ty text.now) value.old }
+    ensures text_unchanged { text.exit.now ≡ text.entry.now }
 {
     let answer = literal::value(ty, text);
     match answer {
@@ -77,7 +77,7 @@ pub fn keybasket_value(ty: u64, text: &[u8], value: &mut u64) -> usize
 // The reading of a text by entry code, as eight numbers: kind, start of suffix, values and counts of digits; or 0, the refusal number and the span.
 pub fn keybasket_read(entry: u64, text: &[u8], answer: &mut [u64; 8])
     ensures answer_after { answer.new ≡ reading_numbers (read_at entry text.now) (digit_counts text.now (read_at entry text.now)) }
-    ensures text_value { text.exit.now ≡ text.entry.now }
+    ensures text_unchanged { text.exit.now ≡ text.entry.now }
 {
     *answer = numbers::reading_numbers(literal::read(entry, text));
 }
@@ -95,23 +95,23 @@ fn keyed_numbers(found: Keyed) -> [u64; 8]
 // The reading of a text by the keyed entry, as eight numbers.
 pub fn keybasket_read_keyed(text: &[u8], answer: &mut [u64; 8])
     ensures answer_after { answer.new ≡ reading_numbers (keyed_at text.now) (digit_counts text.now (keyed_at text.now)) }
-    ensures text_value { text.exit.now ≡ text.entry.now }
+    ensures text_unchanged { text.exit.now ≡ text.entry.now }
 {
     *answer = keyed_numbers(keyed::read_keyed(text));
 }
 
 // The type code of the integer type that a name stands for, 1 to 12, or 0.
 pub fn keybasket_integer_from_suffix(name: &[u8]) -> u64
-    ensures value { result ≡ integer_from_suffix name.now }
-    ensures name_value { name.exit.now ≡ name.entry.now }
+    ensures answer { result ≡ integer_from_suffix name.now }
+    ensures name_unchanged { name.exit.now ≡ name.entry.now }
 {
     literal::integer_from_suffix(name) as u64
 }
 
 // The type code of the float type that a name stands for, 13 or 14, or 0.
 pub fn keybasket_float_from_suffix(name: &[u8]) -> u64
-    ensures value { result ≡ float_from_suffix name.now }
-    ensures name_value { name.exit.now ≡ name.entry.now }
+    ensures answer { result ≡ float_from_suffix name.now }
+    ensures name_unchanged { name.exit.now ≡ name.entry.now }
 {
     literal::float_from_suffix(name) as u64
 }

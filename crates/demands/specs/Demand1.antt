@@ -22,10 +22,10 @@
 --   literal::decode               decoded_of r ≡ decode_at code text (length of out at entry), and out at exit ≡ decode_buffer code text (out at entry)
 --   literal::integer_from_suffix  r ≡ integer_from_suffix name
 --   literal::float_from_suffix    r ≡ float_from_suffix name
---   settle::measure               settledOf r ≡ measure_at text
---   settle::settle                settledOf r ≡ settle_at text (length of out at entry), and out at exit ≡ settle_buffer text (out at entry)
---   keyed::read_keyed             keyedOf r ≡ keyed_at text, and keyed_counts r ≡ digit_counts text (keyed_at text)
--- and the entries for C, with out at exit as above:
+--   settle::measure               settled_of r ≡ measure_at text
+--   settle::settle                settled_of r ≡ settle_at text (length of out at entry), and out at exit ≡ settle_buffer text (out at entry)
+--   keyed::read_keyed             keyed_of r ≡ keyed_at text, and keyed_counts r ≡ digit_counts text (keyed_at text)
+-- and the entries for C, which c_api_c exports with the same contracts, with out at exit as above:
 --   c_api::keybasket_read          the eight numbers at exit ≡ reading_numbers (read_at entry text) (digit_counts text (read_at entry text))
 --   c_api::keybasket_read_keyed    the eight numbers at exit ≡ reading_numbers (keyed_at text) (digit_counts text (keyed_at text))
 --   c_api::keybasket_value         r ≡ return_value (λ v. 0) (value_at ty text), and value at exit ≡ value_after (value_at ty text) (value at entry)

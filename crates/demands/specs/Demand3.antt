@@ -4,8 +4,8 @@
 -- whose reduced power of ten lies beyond 1,000,000 either way, or when its form would be longer than 65,536 bytes, or when the output buffer is
 -- shorter than the form."
 --
--- The contract of the settling call `settle::settle`: settledOf r ≡ settle_at text (length of out at entry), and out at exit ≡ settle_buffer text (out
--- at entry). That of `settle::measure`: settledOf r ≡ measure_at text. 01: "accepted" and "read again" speak of entry 0, "given" and "withheld" of the
+-- The contract of the settling call `settle::settle`: settled_of r ≡ settle_at text (length of out at entry), and out at exit ≡ settle_buffer text (out
+-- at entry). That of `settle::measure`: settled_of r ≡ measure_at text. 01: "accepted" and "read again" speak of entry 0, "given" and "withheld" of the
 -- settling call. Kind, exact value and suffix are those of `Means` (Demand2): the worth w and the suffix x; `SameWorth` is the same kind and the
 -- same exact value; two floats are equal, as 01 says, "when one power of ten makes both whole and the two whole numbers agree".
 -- Assumes nothing.
