@@ -1,9 +1,7 @@
 // Takes a batch of records from standard input (docs/BATCH.md) and prints one line for each.
 #![tactic(auto)]
 
-ghost use Rattle.std.specs.Prelude.{◌≡◌, false, true, ◌+◌, ◌*◌, ◌≤◌, ◌<◌, ◌⊎◌, length, take, IfOk, OnErr};
-ghost use Rattle.std.specs.Io.{ReadsAtMost};
-ghost use Rattle.std.specs.Io.KnownBytes.{Consumes, IsAtEnd};
+ghost use Rattle.std.specs.Prelude.{◌≡◌, false, true, ◌+◌, ◌*◌, ◌≤◌, ◌<◌, ◌⊎◌, length, IfOk, OnErr};
 ghost use Rattle.buffer.specs.Buffer.{over};
 ghost use Rattle.batch.specs.Record.{number_at, head_line, head_buffer, Recorded, Lent};
 
@@ -26,23 +24,6 @@ fn number_at(head: &[u8; 10], at: usize) -> usize
         + 256 * widen(head[at + 1])
         + 65536 * widen(head[at + 2])
         + 16777216 * widen(head[at + 3])
-}
-
-// Reads until buf is full or the input ends, and returns how many bytes it put at the start of buf.
-fn read_full<R: Read>(input: &mut R, buf: &mut [u8]) -> io::Result<usize>
-    ensures bound { ReadsAtMost result buf.new }
-    ensures bytes { IfOk result (λ n. Consumes (R.remaining input.old) (R.remaining input.new) (take n buf.new)) }
-    ensures end { IfOk result (λ n. n < length buf.old → IsAtEnd (R.remaining input.new)) }
-{
-    let mut done = 0;
-    while done < buf.len() {
-        let n = input.read(&mut buf[done..])?;
-        if n == 0 {
-            return Ok(done);
-        }
-        done += n;
-    }
-    Ok(done)
 }
 
 // A record that breaks off or is too large: no other follows.
@@ -87,7 +68,7 @@ fn record<R: Read, W: Write>(
         (Recorded false head.new text.new line.old line.new × Lent false head.new text.new out.old out.new)
         ⊎ (Recorded true head.new text.new line.old line.new × Lent true head.new text.new out.old out.new)) }
 {
-    let got = read_full(input, head)?;
+    let got = reader::read_full(input, head)?;
     if got == 0 {
         return Ok(false);
     }
@@ -102,7 +83,7 @@ fn record<R: Read, W: Write>(
     if text.len() < n {
         return bad_record(output);
     }
-    let read = read_full(input, &mut text[0..n])?;
+    let read = reader::read_full(input, &mut text[0..n])?;
     if read < n {
         return bad_record(output);
     }
