@@ -1,29 +1,19 @@
 // Takes a batch of records from standard input (docs/BATCH.md) and prints one line for each.
 #![tactic(auto)]
 
-ghost use Rattle.std.specs.Prelude.{◌≡◌, false, true, ◌+◌, ◌*◌, ◌≤◌, ◌<◌, ◌⊎◌, length, IfOk, OnErr};
+ghost use Rattle.std.specs.Prelude.{◌≡◌, false, true, ◌+◌, ◌*◌, ◌≤◌, ◌⊎◌, length, IfOk, OnErr};
 ghost use Rattle.buffer.specs.Buffer.{over};
 ghost use Rattle.batch.specs.Record.{number_at, head_line, head_buffer, Recorded, Lent};
 
 use std::io;
 use std::io::{Read, Write};
 
-// A byte as a usize.
-fn widen(x: u8) -> usize
-    ensures { (result ≡ x) × (result < 256) }
-{
-    x as usize
-}
-
 // Four bytes, the least first.
 fn number_at(head: &[u8; 10], at: usize) -> usize
     requires { at ≤ 6 }
     ensures { result ≡ number_at head.now at }
 {
-    widen(head[at])
-        + 256 * widen(head[at + 1])
-        + 65536 * widen(head[at + 2])
-        + 16777216 * widen(head[at + 3])
+    u32::from_le_bytes([head[at], head[at + 1], head[at + 2], head[at + 3]]) as usize
 }
 
 // A record that breaks off or is too large: no other follows.
@@ -98,18 +88,17 @@ fn main(rt: HostRuntime) -> io::Result<()> {
     let mut out = [0u8; 65600];
     let mut input = rt.stdin();
     let mut output = rt.stdout();
-    let mut turns = u64::MAX;
-    while turns > 0
-        && record(
+    for _ in 0..u64::MAX {
+        if !record(
             &mut input,
             &mut output,
             &mut line,
             &mut head,
             &mut text,
             &mut out,
-        )?
-    {
-        turns -= 1;
+        )? {
+            break;
+        }
     }
     Ok(())
 }

@@ -1,20 +1,18 @@
--- Laws of the lines' pieces: one after another, in hexadecimal, and of bytes that are kept.
+-- Laws of the lines' pieces: one after another, and in hexadecimal.
 -- Assumes nothing.
 use mathlib.Core.Path.{◌≡◌, refl, ap, sym, ◌∙◌}
-use mathlib.Core.Bool.{true, false}
 use mathlib.Core.List.{List, [], ◌∷◌, ◌++◌, append_assoc, append-nil}
 use Prim.Native.Nat.{ℕ, ◌+◌, ◌*◌, ◌-◌, ◌≤◌, ◌<◌}
 use native.Mathlib.Nat.{zero-add, add_assoc}
 use native.Mathlib.Numerals.{add-one}
 use native.Mathlib.Omega.{arith}
-use lib.ListN.{length, take, drop, get_or, length-append, take-append-drop, drop_of_length-le}
-use lib.Seq.{take_at, drop_at, drop-drop, drop-cons, take-suc, length-take-le}
-use borrow.Author.Tests.{eq-eqb, ne_eqb}
+use lib.ListN.{length, take, drop, get_or, length-append, take-append-drop}
+use lib.Seq.{take_at, drop_at, drop-drop, take-suc, length-take-le}
 use borrow.Rule.Slice.PartMut.{put_mid}
 use Rattle.buffer.specs.Buffer.{over, Wrote}
 use Rattle.buffer.specs.Digits.{hex_digits}
 use Rattle.buffer.proofs.Laws as laws
-use Rattle.batch_line.specs.Lines.{Added, hexes, hex_piece, kept}
+use Rattle.batch_line.specs.Lines.{Added, hexes, hex_piece}
 
 -- ---- one piece after another
 
@@ -103,21 +101,6 @@ hexes_append (b ∷ s) t = rw (hexes_append s t)
 pub hexes_more : (s : List ℕ) (i : ℕ) → i < length s → hexes (take (i + 1) s) ≡ hexes (take i s) ++ hex_digits (get_or s i 0)
 hexes_more s i h = rw (add-one, take-suc s i 0 h, hexes_append (take i s) (get_or s i 0 ∷ [])) (simp append-nil)
 
-pub hex_none : (s : List ℕ) → length s ≡ 0 → hex_piece s ≡ 32 ∷ 45 ∷ []
-hex_none [] h = refl
-hex_none (b ∷ s) h = absurd (omega arith)
-
 pub hex_some : (s : List ℕ) → (length s ≡ 0 → ⊥) → hex_piece s ≡ 32 ∷ hexes s
 hex_some [] h = absurd (h refl)
 hex_some (b ∷ s) h = refl
-
--- ---- bytes that are kept
-
-pub kept_more : (s : List ℕ) (i : ℕ) → i < length s → get_or s i 0 ≡ 165 → kept (drop i s) ≡ kept (drop (i + 1) s)
-kept_more s i h e = rw (drop-cons s i 0 h, eq-eqb _ _ e, add-one)
-
-pub kept_stop : (s : List ℕ) (i : ℕ) → i < length s → (get_or s i 0 ≡ 165 → ⊥) → kept (drop i s) ≡ false
-kept_stop s i h e = rw (drop-cons s i 0 h, ne_eqb _ _ e)
-
-pub kept_end : (s : List ℕ) (i : ℕ) → length s ≤ i → kept (drop i s) ≡ true
-kept_end s i h = rw (drop_of_length-le s h)

@@ -1,6 +1,7 @@
 -- The lines of the batch format (docs/BATCH.md, The lines), as bytes, without the line feed that ends each. A piece starts with a space.
 -- Assumes nothing.
-use Rattle.std.specs.Prelude.{ℕ, ◌+◌, ◌≡◌, Bool, cond, true, ◌&&◌, List, [], ◌∷◌, ◌++◌, eqb, length, take, drop}
+use Rattle.std.specs.Prelude.{ℕ, ◌+◌, ◌≡◌, Bool, cond, List, [], ◌∷◌, ◌++◌, eqb, length, take, drop}
+use Rattle.std.specs.List.{list_all}
 use Rattle.err.specs.Outcome.{Place, none, between, Rawness, not_raw, raw, Values, truth, digits, ends, value, decoded, Outcome, refused, accepted}
 use Rattle.err.specs.Counts.{Counts, no_counts, integer_count, float_counts}
 use Rattle.buffer.specs.Buffer.{over}
@@ -57,8 +58,7 @@ hex_piece (b ∷ s) = 32 ∷ hexes (b ∷ s)
 
 -- "every byte .. is still 165"
 abbrev pub kept : List ℕ → Bool
-kept [] = true
-kept (b ∷ s) = eqb b 165 && kept s
+kept = list_all (λ b. eqb b 165)
 
 -- "`kept` if every byte after them is still 165, else `changed`"
 unfoldable pub kept_piece : List ℕ → List ℕ

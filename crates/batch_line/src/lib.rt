@@ -2,7 +2,7 @@
 // returns where what it wrote ends, and leaves the bytes after that as they were.
 #![tactic(auto)]
 
-ghost use Rattle.std.specs.Prelude.{◌≡◌, cond, ◌++◌, ◌+◌, ◌*◌, ◌≤◌, length, drop};
+ghost use Rattle.std.specs.Prelude.{Ok, ◌≡◌, ◌++◌, ◌+◌, ◌*◌, ◌≤◌, length, drop};
 ghost use Rattle.err.specs.Numbers.{number_of};
 ghost use Rattle.err.specs.Reading.{place_of, hashes_of, values_of_string, outcome_of};
 ghost use Rattle.err.specs.Outcome.{none, accepted};
@@ -11,7 +11,7 @@ ghost use Rattle.err_added.specs.Numbers.{added_number};
 ghost use Rattle.buffer.specs.Buffer.{Wrote};
 ghost use Rattle.batch_line.specs.Lines.{Added, number_piece, place_piece, hashes_piece, counts_piece, hexes, hex_piece, kept, kept_piece, refusal_line, ok_line, kind_line, reading_line};
 
-use err::{Hashes, ParseErrorKind, Reading, Span, StringLit};
+use err::{Literal, ParseError, Reading, Span, StringLit};
 use err_added::AddedErrorKind;
 
 // Some bytes.
@@ -32,35 +32,35 @@ pub fn add_number(line: &mut [u8], at: usize, n: u64) -> usize
 }
 
 // The span's ends, or that it has none.
-fn add_span(line: &mut [u8], at: usize, span: Span) -> usize
+fn add_span(line: &mut [u8], at: usize, span: Option<Span>) -> usize
     requires { at + 42 ≤ length line.old }
     ensures { Added (place_piece (place_of span)) at result line.old line.new × (result ≤ at + 42) }
 {
     match span {
-        Span::Nowhere => add(line, at, b" - -"),
-        Span::Between(from, to) => {
-            let next = add_number(line, at, from as u64);
-            add_number(line, next, to as u64)
+        None => add(line, at, b" - -"),
+        Some(span) => {
+            let next = add_number(line, at, span.start as u64);
+            add_number(line, next, span.end as u64)
         }
     }
 }
 
 // `no`, a number and a span.
-fn put_no(line: &mut [u8], number: u64, span: Span) -> usize
+fn put_no(line: &mut [u8], number: u8, span: Option<Span>) -> usize
     requires { 128 ≤ length line.old }
     ensures { Wrote (refusal_line number (place_of span)) result line.old line.new × (result ≤ 107) }
 {
     let start = add(line, 0, b"no");
-    let at = add_number(line, start, number);
+    let at = add_number(line, start, u64::from(number));
     add_span(line, at, span)
 }
 
 // The line of a refusal: its number and its span.
-pub fn put_refusal(line: &mut [u8], kind: ParseErrorKind, span: Span) -> usize
+pub fn put_refusal(line: &mut [u8], error: ParseError) -> usize
     requires { 128 ≤ length line.old }
-    ensures { Wrote (refusal_line (number_of kind) (place_of span)) result line.old line.new × (result ≤ 107) }
+    ensures { Wrote (refusal_line (number_of error.kind) (place_of error.span)) result line.old line.new × (result ≤ 107) }
 {
-    put_no(line, err::number(kind) as u64, span)
+    put_no(line, err::number(error.kind), error.span)
 }
 
 // The line of a refusal from 50 on, which has no span.
@@ -68,7 +68,7 @@ pub fn put_added(line: &mut [u8], kind: AddedErrorKind) -> usize
     requires { 128 ≤ length line.old }
     ensures { Wrote (refusal_line (added_number kind) none) result line.old line.new × (result ≤ 107) }
 {
-    put_no(line, err_added::number(kind) as u64, Span::Nowhere)
+    put_no(line, err_added::number(kind), None)
 }
 
 // `ok` and a number.
@@ -100,13 +100,13 @@ fn add_three(line: &mut [u8], at: usize, a: u64, b: u64, d: u64) -> usize
 }
 
 // Hashes, `-` where it is not raw.
-fn add_hashes(line: &mut [u8], at: usize, hashes: Hashes) -> usize
+fn add_hashes(line: &mut [u8], at: usize, hashes: Option<u8>) -> usize
     requires { at + 21 ≤ length line.old }
     ensures { Added (hashes_piece (hashes_of hashes)) at result line.old line.new × (result ≤ at + 21) }
 {
     match hashes {
-        Hashes::NotRaw => add(line, at, b" -"),
-        Hashes::Raw(n) => add_number(line, at, n as u64),
+        None => add(line, at, b" -"),
+        Some(n) => add_number(line, at, u64::from(n)),
     }
 }
 
@@ -116,16 +116,54 @@ fn put_string(line: &mut [u8], kind: u64, l: StringLit) -> usize
     ensures { Wrote (reading_line (accepted kind l.start_suffix (values_of_string l))) result line.old line.new × (result ≤ 107) }
 {
     let at = put_kind(line, kind, l.start_suffix);
-    let hashes = l.hashes;
-    let next = add_hashes(line, at, hashes);
+    let next = add_hashes(line, at, l.hashes);
     add_number(line, next, l.value_len as u64)
 }
 
-// 1 for true, 0 for false.
-fn truth(value: bool) -> u64
-    ensures { result ≡ cond value 1 0 }
+// The line of a literal.
+pub fn put_literal(line: &mut [u8], lit: Literal) -> usize
+    requires { 128 ≤ length line.old }
+    ensures { Wrote (reading_line (outcome_of (Ok lit))) result line.old line.new × (result ≤ 107) }
 {
-    if value { 1 } else { 0 }
+    match lit {
+        Literal::Bool(l) => {
+            let at = put_kind(line, 1, l.end);
+            add_number(line, at, u64::from(l.value))
+        }
+        Literal::Integer(l) => {
+            let at = put_kind(line, 2, l.end_main_part);
+            let base = u64::from(l.base.value());
+            add_three(
+                line,
+                at,
+                base,
+                l.start_main_part as u64,
+                l.end_main_part as u64,
+            )
+        }
+        Literal::Float(l) => {
+            let at = put_kind(line, 3, l.end_number_part);
+            let end = l.end_number_part as u64;
+            add_three(
+                line,
+                at,
+                l.end_integer_part as u64,
+                l.end_fractional_part as u64,
+                end,
+            )
+        }
+        Literal::Char(l) => {
+            let at = put_kind(line, 4, l.start_suffix);
+            add_number(line, at, u64::from(l.value))
+        }
+        Literal::String(l) => put_string(line, 5, l),
+        Literal::Byte(l) => {
+            let at = put_kind(line, 6, l.start_suffix);
+            add_number(line, at, u64::from(l.value))
+        }
+        Literal::ByteString(l) => put_string(line, 7, l),
+        Literal::CString(l) => put_string(line, 8, l),
+    }
 }
 
 // The line of a reading.
@@ -134,43 +172,8 @@ pub fn put_reading(line: &mut [u8], r: Reading) -> usize
     ensures { Wrote (reading_line (outcome_of r)) result line.old line.new × (result ≤ 107) }
 {
     match r {
-        Reading::Refused(kind, span) => put_refusal(line, kind, span),
-        Reading::Bool(l) => {
-            let at = put_kind(line, 1, l.end);
-            add_number(line, at, truth(l.value))
-        }
-        Reading::Integer(l) => {
-            let at = put_kind(line, 2, l.end_main_part);
-            let base = l.base;
-            add_three(
-                line,
-                at,
-                base.value() as u64,
-                l.start_main_part as u64,
-                l.end_main_part as u64,
-            )
-        }
-        Reading::Float(l) => {
-            let at = put_kind(line, 3, l.end_number_part);
-            add_three(
-                line,
-                at,
-                l.end_integer_part as u64,
-                l.end_fractional_part as u64,
-                l.end_number_part as u64,
-            )
-        }
-        Reading::Char(l) => {
-            let at = put_kind(line, 4, l.start_suffix);
-            add_number(line, at, l.value as u64)
-        }
-        Reading::String(l) => put_string(line, 5, l),
-        Reading::Byte(l) => {
-            let at = put_kind(line, 6, l.start_suffix);
-            add_number(line, at, l.value as u64)
-        }
-        Reading::ByteString(l) => put_string(line, 7, l),
-        Reading::CString(l) => put_string(line, 8, l),
+        Ok(lit) => put_literal(line, lit),
+        Err(error) => put_refusal(line, error),
     }
 }
 
@@ -180,8 +183,8 @@ pub fn add_counts(line: &mut [u8], at: usize, r: Reading) -> usize
     ensures { Added (counts_piece (counts_of r)) at result line.old line.new × (result ≤ at + 63) }
 {
     match r {
-        Reading::Integer(l) => add_number(line, at, l.digits as u64),
-        Reading::Float(l) => add_three(
+        Ok(Literal::Integer(l)) => add_number(line, at, l.digits as u64),
+        Ok(Literal::Float(l)) => add_three(
             line,
             at,
             l.integer_digits as u64,
@@ -198,10 +201,8 @@ fn add_hexes(line: &mut [u8], at: usize, bytes: &[u8]) -> usize
     ensures { Added (hexes bytes.now) at result line.old line.new }
 {
     let mut end = at;
-    let mut i = 0;
-    while i < bytes.len() {
-        end += buffer::put_hex(&mut line[end..], bytes[i]);
-        i += 1;
+    for b in bytes {
+        end += buffer::put_hex(&mut line[end..], *b);
     }
     end
 }
@@ -211,7 +212,7 @@ pub fn add_hex(line: &mut [u8], at: usize, bytes: &[u8]) -> usize
     requires { at + (2 + 2 * length bytes.now) ≤ length line.old }
     ensures { Added (hex_piece bytes.now) at result line.old line.new × (result ≤ at + (2 + 2 * length bytes.now)) }
 {
-    if bytes.len() == 0 {
+    if bytes.is_empty() {
         return add(line, at, b" -");
     }
     let from = add(line, at, b" ");
@@ -222,14 +223,7 @@ pub fn add_hex(line: &mut [u8], at: usize, bytes: &[u8]) -> usize
 fn is_kept(out: &[u8], from: usize) -> bool
     ensures { result ≡ kept (drop from out.now) }
 {
-    let mut i = from;
-    while i < out.len() {
-        if out[i] != 165 {
-            return false;
-        }
-        i += 1;
-    }
-    true
+    out.iter().skip(from).all(|b| *b == 165)
 }
 
 // Whether a buffer after its first bytes is as it was.

@@ -2,6 +2,7 @@
 -- Assumes nothing.
 use mathlib.Core.Path.{◌≡◌, sym}
 use mathlib.Core.List.{List}
+use Rattle.std.specs.Prelude.{Option, Some, None}
 use Prim.Native.Nat.{ℕ, ◌≤◌}
 use native.Mathlib.Omega.{arith}
 use borrow.Author.Tests.{leb-true}
@@ -18,8 +19,6 @@ use Rattle.string.specs.String.{string_read, string_value}
 use Rattle.string.specs.Decode.{Decode, written, refusal, of_reading, string_decoded}
 use Rattle.literal.specs.Readings.{read_at}
 use Rattle.literal.specs.Decodes.{checked_decode, kind_coded, decode_by, decode_at}
-use Rattle.literal.specs.declared.KindFound.{KindFound}
-use Rattle.literal.specs.declared.KindFound.TheVariants as found
 use Rattle.settle.specs.Settled as settled
 use Rattle.settle.proofs.Forms.{no_form, same_form}
 
@@ -39,9 +38,9 @@ decoded_fits code s room {n} = by_kind (kind_coded code)
     by_reading (refused m p) v = no_written
     by_reading (accepted k e vs) v = cond_in P (leb (length v) room) (λ t e. let z : length v ≡ n = cc in omega (arith, leb-true (length v) room t)) (λ t. no_written)
 
-    by_kind : (f : KindFound) → P (decode_by f s room)
-    by_kind (found.Kind k) = cond_in P (eqb (text_fault s) 0) (λ t. by_reading (string_read k s) (string_value k s)) (λ t. no_written)
-    by_kind found.Nothing = no_written
+    by_kind : (f : Option _) → P (decode_by f s room)
+    by_kind (Some k) = cond_in P (eqb (text_fault s) 0) (λ t. by_reading (string_read k s) (string_value k s)) (λ t. no_written)
+    by_kind None = no_written
 
 -- ---- settling
 

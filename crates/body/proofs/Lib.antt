@@ -5,3 +5,4 @@ pub mod Runs
 pub mod Codes
 pub mod Bytes
 pub mod Strings
+pub mod Turns

@@ -9,7 +9,7 @@ use borrow.Author.Tests.{eq-eqb, ne_eqb}
 use lib.Dec.{eqb, ltb}
 use lib.ListN.{length, get_or, drop, drop_of_length-le}
 use lib.Seq.{drop-cons}
-use Rattle.err.specs.Outcome.{none, between}
+use Rattle.err.specs.Outcome.{Place, none, between, refused}
 use Rattle.scan.specs.Run.{run}
 use Rattle.parse.specs.Sets.{blank}
 use Rattle.utf8.specs.Cut.{front}
@@ -18,6 +18,12 @@ use Rattle.escape.specs.Escape.{escape_of}
 use Rattle.escape.specs.declared.Allowed.{Allowed}
 use Rattle.escape.specs.declared.Unescaped.TheVariants.{Nothing, Byte}
 use Rattle.body.specs.Step.{close, refuse, piece, stop, of_escape, line_break_of, backslash_of, plain_of, step_of}
+
+-- ---- a refusal
+
+-- what an error's contract says of it, as a step
+pub refused_stops : {m n : ℕ} {p q : Place} → refused m p ≡ refused n q → stop (refuse m p) ≡ stop (refuse n q)
+refused_stops e = cc
 
 -- ---- a dropped line break
 

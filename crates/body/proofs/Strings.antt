@@ -7,6 +7,7 @@ use native.Mathlib.Omega.{arith}
 use borrow.Author.Tests.{eq-eqb, ne_eqb}
 use lib.ListN.{length, drop, length-drop}
 use Rattle.err.specs.Outcome.{Place, none, between, Rawness, not_raw, Ends, RefusedIn, shift}
+use Rattle.err.specs.Outcome as outcome
 use Rattle.scan.proofs.Cases.{cond_eq, by_lt}
 use Rattle.suffix.specs.Suffix.{suffix_fault}
 use Rattle.suffix.proofs.Suffixes.{fault_none, fault_small}
@@ -17,6 +18,12 @@ use Rattle.body.specs.Quote.{Quote, quoted, refused, closing, suffixed, after_en
 use Rattle.body.specs.declared.Measured.{Measured}
 use Rattle.body.proofs.Within.{EndIn, end_fits, NextIn, step_in}
 use Rattle.body.proofs.Bodies.{ends_in, value_short}
+
+-- ---- a refusal
+
+-- what an error's contract says of it, as a quoted string's result
+pub refused_quote : {m n : ℕ} {p q : Place} → outcome.refused m p ≡ outcome.refused n q → refused m p ≡ refused n q
+refused_quote e = cc
 
 -- ---- a suffix
 

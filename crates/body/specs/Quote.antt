@@ -1,6 +1,6 @@
 -- What stands after a body, and what litrs's `unescape_string` (escape.rs) returns for a whole text.
 -- Assumes nothing.
-use Rattle.std.specs.Prelude.{ℕ, ◌+◌, cond, List, eqb, length, drop}
+use Rattle.std.specs.Prelude.{ℕ, ◌+◌, cond, List, eqb, length, drop, Result, Ok, Err}
 use Rattle.err.specs.Outcome.{Place, between, Rawness, not_raw, raw, shift}
 use Rattle.err.specs.Numbers.{number_of}
 use Rattle.err.specs.Reading.{place_of, hashes_of}
@@ -8,8 +8,8 @@ use Rattle.suffix.specs.Suffix.{suffix_fault}
 use Rattle.escape.specs.declared.Allowed.{Allowed}
 use Rattle.body.specs.Step.{End, close, refuse}
 use Rattle.body.specs.Body.{Body, body}
-use Rattle.body.specs.declared.Quoted.{Quoted}
-use Rattle.body.specs.declared.Quoted.TheVariants as answer
+use Rattle.err.specs.declared.StringLit.{StringLit}
+use Rattle.err.specs.declared.ParseError.{ParseError}
 
 -- 01: "hashes (or not raw)", the start of the suffix, and the "value length"; or a refusal's number and span
 pub data Quote : Type 0 where
@@ -17,14 +17,9 @@ pub data Quote : Type 0 where
   refused : ℕ → Place → Quote
 
 -- 01's numbers and values for each case of the result
-abbrev pub quote_of : Quoted → Quote
-quote_of (answer.Lit l) = quoted (hashes_of l.hashes) l.start_suffix l.value_len
-quote_of (answer.Refused k s) = refused (number_of k) (place_of s)
-
--- whether a result is a refusal; serves contracts between functions
-abbrev pub IsRefused : Quoted → Type 0
-IsRefused (answer.Lit l) = ⊥
-IsRefused (answer.Refused k s) = Unit {0}
+abbrev pub quote_of : Result StringLit ParseError → Quote
+quote_of (Ok l) = quoted (hashes_of l.hashes) l.start_suffix l.value_len
+quote_of (Err e) = refused (number_of e.kind) (place_of e.span)
 
 -- how many bytes close a string: a quote, and a raw string's hashes
 abbrev pub closing : Rawness → ℕ

@@ -1,6 +1,6 @@
 -- One step through a body, and through a quoted one as the loop of litrs's `unescape_string` (escape.rs) takes it.
 -- Assumes nothing.
-use Rattle.std.specs.Prelude.{ℕ, ◌+◌, cond, not, ◌&&◌, List, [], ◌∷◌, eqb, ltb, length, get_or, drop}
+use Rattle.std.specs.Prelude.{ℕ, ◌+◌, cond, not, ◌&&◌, List, [], ◌∷◌, eqb, ltb, length, get_or, drop, Option, Some, None, Result, Ok, Err}
 use Rattle.err.specs.Outcome.{Place, none, between}
 use Rattle.err.specs.Numbers.{number_of}
 use Rattle.err.specs.Reading.{place_of}
@@ -12,10 +12,7 @@ use Rattle.escape.specs.Escape.{Escaped, value, bad, escape_of}
 use Rattle.escape.specs.declared.Allowed.{Allowed}
 use Rattle.escape.specs.declared.Unescaped.{Unescaped}
 use Rattle.escape.specs.declared.Unescaped.TheVariants.{Nothing, Byte}
-use Rattle.body.specs.declared.Ending.{Ending}
-use Rattle.body.specs.declared.Ending.TheVariants as ending
-use Rattle.body.specs.declared.Step.{Step}
-use Rattle.body.specs.declared.Step.TheVariants as step
+use Rattle.err.specs.declared.ParseError.{ParseError}
 
 -- why a body ends: at its closing quote, or with a refusal's number and its span, counted from here
 pub data End : Type 0 where
@@ -27,15 +24,20 @@ pub data Next : Type 0 where
   piece : ℕ → Unescaped → Next
   stop : End → Next
 
+-- an error as the end of a body, in 01's number and span
+abbrev pub refusing : ParseError → End
+refusing e = refuse (number_of e.kind) (place_of e.span)
+
 -- 01's number and span for each case of an ending
-abbrev pub end_of : Ending → End
-end_of ending.Close = close
-end_of (ending.Bad k s) = refuse (number_of k) (place_of s)
+abbrev pub end_of : Result (Unit {0}) ParseError → End
+end_of (Ok u) = close
+end_of (Err e) = refusing e
 
 -- and of a step
-abbrev pub next_of : Step → Next
-next_of (step.Piece u n) = piece n u
-next_of (step.Stop e) = stop (end_of e)
+abbrev pub next_of : Result (Option (Unescaped × ℕ)) ParseError → Next
+next_of (Ok (Some (u, n))) = piece n u
+next_of (Ok None) = stop close
+next_of (Err e) = stop (refusing e)
 
 -- ---- quoted bodies
 
@@ -43,11 +45,6 @@ next_of (step.Stop e) = stop (end_of e)
 abbrev pub of_escape : Escaped → Next
 of_escape (value u n) = piece n u
 of_escape (bad num p) = stop (refuse num p)
-
--- whether an escape is refused; serves a contract between functions
-abbrev pub IsBad : Escaped → Type 0
-IsBad (value u n) = ⊥
-IsBad (bad num p) = Unit {0}
 
 -- 01, Escapes: "A backslash before LF drops itself and all following spaces, tabs and LFs; a text that ends there is 30". s is what stands
 -- after the LF.

@@ -4,29 +4,20 @@
 ghost use Rattle.std.specs.Prelude.{◌≡◌, ◌+◌, ◌-◌, ◌≤◌, ◌<◌, length, drop};
 ghost use Rattle.err.specs.Reading.{hashes_of};
 ghost use Rattle.utf8.specs.Cut.{last_len};
-ghost use Rattle.escape.specs.Escape.{escaped_of};
 ghost use Rattle.body.specs.Packed.{packed_backslash, Stopped};
-ghost use Rattle.body.specs.Step.{stop, end_of, next_of, of_escape, IsBad, line_break_of, backslash_of, plain_of, step_of};
+ghost use Rattle.body.specs.Step.{stop, end_of, next_of, line_break_of, backslash_of, plain_of, step_of};
 ghost use Rattle.body.specs.Body.{body, Measures, Fitting};
 ghost use Rattle.body.specs.Quote.{quote_of, closing, suffixed, after_end, string_of};
 
-use err::{Checked, Hashes, ParseErrorKind, Span, StringLit};
-use escape::{Allowed, Escape, Unescaped};
-use parse::ClassSet;
+use err::{ParseError, ParseErrorKind, StringLit};
+use escape::{Allowed, Unescaped};
+use parse::Blanks;
 
 // Why a body ends: at its closing quote, or with a refusal whose span counts from there.
-#[derive(Clone, Copy)]
-pub enum Ending {
-    Close,
-    Bad(ParseErrorKind, Span),
-}
+pub type Ending = Result<(), ParseError>;
 
-// Some bytes that stand for a value, and how many, or the end.
-#[derive(Clone, Copy)]
-pub enum Step {
-    Piece(Unescaped, usize),
-    Stop(Ending),
-}
+// Some bytes that stand for a value, and how many; or the closing quote; or a refusal. The last two end the body.
+pub type Step = Result<Option<(Unescaped, usize)>, ParseError>;
 
 // Where a body ends, how many bytes it stands for up to there, and why it ends.
 #[derive(Clone, Copy)]
@@ -36,37 +27,23 @@ pub struct Measured {
     pub end: Ending,
 }
 
-// A string, a byte string or a C string, or the refusal.
-#[derive(Clone, Copy)]
-pub enum Quoted {
-    Lit(StringLit),
-    Refused(ParseErrorKind, Span),
-}
-
-// A refusal of the byte where a step stands.
-fn refuse(kind: ParseErrorKind) -> Step
-    ensures { result ≡ Step.Stop (Ending.Bad kind (Span.Between 0 1)) }
-{
-    Step::Stop(Ending::Bad(kind, Span::Between(0, 1)))
-}
-
 // A byte where no escape starts: any but a backslash, and in a raw body that too.
 pub fn plain(b: u8, k: Allowed) -> Step
     ensures { next_of result ≡ plain_of k b }
 {
     if b == b'\r' {
-        return refuse(ParseErrorKind::CarriageReturn);
+        return Err(err::perr(ParseErrorKind::CarriageReturn, 0, 1));
     }
     if b == b'"' {
-        return Step::Stop(Ending::Close);
+        return Ok(None);
     }
     if escape::bars(k.allow_nul(), b == 0) {
-        return refuse(ParseErrorKind::NulByte);
+        return Err(err::perr(ParseErrorKind::NulByte, 0, 1));
     }
     if escape::bars(k.unicode(), 127 < b) {
-        return refuse(ParseErrorKind::NonAsciiInByteLiteral);
+        return Err(err::perr(ParseErrorKind::NonAsciiInByteLiteral, 0, 1));
     }
-    Step::Piece(Unescaped::Byte(b), 1)
+    Ok(Some((Unescaped::Byte(b), 1)))
 }
 
 // A backslash and LF, and the blanks that follow.
@@ -75,26 +52,11 @@ fn line_break(s: &[u8]) -> Step
     ensures { next_of result ≡ line_break_of (drop 2 s.now) }
 {
     let rest = &s[2..];
-    let n = parse::run_len(rest, ClassSet::Blanks);
+    let n = scan::run_len(rest, Blanks);
     if n == rest.len() {
-        return Step::Stop(Ending::Bad(ParseErrorKind::UnterminatedString, Span::Nowhere));
+        return Err(err::perr_nowhere(ParseErrorKind::UnterminatedString));
     }
-    Step::Piece(Unescaped::Nothing, n + 2)
-}
-
-// The refusal of an escape ends the body.
-fn refused(e: Escape) -> Step
-    requires { IsBad (escaped_of e) }
-    ensures { next_of result ≡ of_escape (escaped_of e) }
-{
-    match e {
-        // ruled out by `requires`
-        Escape::Value(_, _) => Step::Stop(Ending::Bad(
-            ParseErrorKind::InvalidLiteral,
-            Span::Nowhere,
-        )),
-        Escape::Bad(kind, span) => Step::Stop(Ending::Bad(kind, span)),
-    }
+    Ok(Some((Unescaped::Nothing, n + 2)))
 }
 
 // A backslash and what follows. An escape never sees the text's last character, which has `last` bytes.
@@ -106,11 +68,8 @@ fn backslash(s: &[u8], last: usize, k: Allowed) -> Step
         return line_break(s);
     }
     let end = s.len() - last;
-    let e = escape::unescape(&s[..end], k);
-    let Escape::Value(u, n) = e else {
-        return refused(e);
-    };
-    Step::Piece(u, n)
+    let piece = escape::unescape(&s[..end], k)?;
+    Ok(Some(piece))
 }
 
 // A backslash and what follows at an offset, as one number; 0 where it ends the body, or where there is none. An escape sees what stands
@@ -128,7 +87,7 @@ pub fn packed_at(s: &[u8], at: usize, end: usize, k: Allowed) -> u64
     let next = at + 1;
     if s[next] == b'\n' {
         let from = at + 2;
-        let n = parse::run_len(&s[from..], ClassSet::Blanks);
+        let n = scan::run_len(&s[from..], Blanks);
         if from + n == s.len() {
             return 0;
         }
@@ -146,7 +105,7 @@ fn step_at(s: &[u8], at: usize, last: usize, k: Allowed) -> Step
     ensures { next_of result ≡ step_of k (drop at s.now) }
 {
     if s.len() <= at {
-        return Step::Stop(Ending::Bad(ParseErrorKind::UnterminatedString, Span::Nowhere));
+        return Err(err::perr_nowhere(ParseErrorKind::UnterminatedString));
     }
     let b = s[at];
     if b != b'\\' {
@@ -161,14 +120,11 @@ fn ending_at(s: &[u8], at: usize, last: usize, k: Allowed) -> Ending
     ensures { stop (end_of result) ≡ step_of k (drop at s.now) }
 {
     if scan::byte_at(s, at) == b'"' {
-        return Ending::Close;
+        return Ok(());
     }
-    let next = step_at(s, at, last, k);
-    // cannot arise: the step is none that goes on
-    let Step::Stop(why) = next else {
-        return Ending::Close;
-    };
-    why
+    // the step has no piece
+    step_at(s, at, last, k)?;
+    Ok(())
 }
 
 // The body of a quoted string, litrs's `unescape_string`: s is what stands after the opening quote, to the end of the text. The bytes that stand
@@ -181,6 +137,7 @@ fn measure(s: &[u8], k: Allowed) -> Measured
     let end = s.len() - last;
     let mut i = body_plain::front_end(s, k);
     let mut n = i;
+    // no `for`: a turn goes on by a length that it finds
     loop {
         if scan::byte_at(s, i) == b'\\' {
             let c = packed_at(s, i, end, k);
@@ -206,30 +163,34 @@ fn measure(s: &[u8], k: Allowed) -> Measured
 }
 
 // The literal where its suffix is good, or the suffix's refusal.
-fn check_end(text: &[u8], lit: StringLit) -> Quoted
+fn check_end(text: &[u8], lit: StringLit) -> Result<StringLit, ParseError>
     requires { lit.start_suffix ≤ length text.now }
     ensures { quote_of result ≡ suffixed text.now (hashes_of lit.hashes) lit.start_suffix lit.value_len }
 {
     let start = lit.start_suffix;
     // most literals have no suffix
     if start == text.len() {
-        return Quoted::Lit(lit);
+        return Ok(lit);
     }
-    let checked = suffix::check_suffix(&text[start..]);
-    let Checked::Bad(kind) = checked else {
-        return Quoted::Lit(lit);
+    let Err(kind) = suffix::check_suffix(&text[start..]) else {
+        return Ok(lit);
     };
-    Quoted::Refused(kind, Span::Between(start, start + 1))
+    Err(err::perr(kind, start, start + 1))
 }
 
 // A body was measured that starts at an offset, and q bytes close it.
-pub fn after_body(text: &[u8], hashes: Hashes, q: usize, offset: usize, m: Measured) -> Quoted
+pub fn after_body(
+    text: &[u8],
+    hashes: Option<u8>,
+    q: usize,
+    offset: usize,
+    m: Measured,
+) -> Result<StringLit, ParseError>
     requires { (q ≡ closing (hashes_of hashes)) × Fitting q (offset) (length text.now) m }
     ensures { quote_of result ≡ after_end text.now (hashes_of hashes) (offset + m.at) m.len (end_of m.end) }
 {
     let at = offset + m.at;
-    let end = m.end;
-    let Ending::Bad(kind, span) = end else {
+    let Err(error) = m.end else {
         return check_end(
             text,
             StringLit {
@@ -239,14 +200,14 @@ pub fn after_body(text: &[u8], hashes: Hashes, q: usize, offset: usize, m: Measu
             },
         );
     };
-    Quoted::Refused(kind, err::offset_span(span, at))
+    Err(error.offset_span(at))
 }
 
 // A text whose quoted body starts at an offset, after the opening quote.
-pub fn unescape_string(text: &[u8], offset: usize, k: Allowed) -> Quoted
+pub fn unescape_string(text: &[u8], offset: usize, k: Allowed) -> Result<StringLit, ParseError>
     requires { (offset ≤ length text.now) × (length text.now < 4294967296) }
     ensures { quote_of result ≡ string_of k offset text.now }
 {
     let m = measure(&text[offset..], k);
-    after_body(text, Hashes::NotRaw, 1, offset, m)
+    after_body(text, None, 1, offset, m)
 }

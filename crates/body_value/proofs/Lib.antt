@@ -4,3 +4,4 @@ pub mod Sound
 pub mod Exact
 pub mod Examples
 pub mod Contents
+pub mod Writes

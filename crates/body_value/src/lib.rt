@@ -15,6 +15,7 @@ pub fn write_value(out: &mut [u8], s: &[u8], k: Allowed) -> usize
     let end = s.len() - utf8::last_len(s);
     let mut i = 0;
     let mut at: usize = 0;
+    // no `for`: a turn goes on by a length that it finds
     loop {
         if scan::byte_at(s, i) == b'\\' {
             let c = body::packed_at(s, i, end, k);

@@ -1,8 +1,12 @@
 -- What litrs's `BoolLit::parse` returns (01, Bools).
 -- Assumes nothing.
-use Rattle.std.specs.Prelude.{ℕ, true, false, cond, List, [], ◌∷◌, length}
+use Rattle.std.specs.Prelude.{ℕ, true, false, cond, List, [], ◌∷◌, length, Result, Ok, Err}
 use Rattle.scan.specs.Same.{same}
 use Rattle.err.specs.Outcome.{Outcome, refused, accepted, none, truth}
+use Rattle.err.specs.Reading.{outcome_of, refusal_of}
+use Rattle.err.specs.declared.BoolLit.{BoolLit}
+use Rattle.err.specs.declared.ParseError.{ParseError}
+use Rattle.err.specs.declared.Literal.TheVariants as literal
 
 -- `true`
 abbrev pub true_text : List ℕ
@@ -18,3 +22,8 @@ bool_read s =
     cond (same s false_text) (accepted 1 (length s) (truth false))
     (cond (same s true_text) (accepted 1 (length s) (truth true))
     (refused 3 none))
+
+-- what a bool's reading comes to: that of the literal, or a refusal
+abbrev pub parsed_of : Result BoolLit ParseError → Outcome
+parsed_of (Ok l) = outcome_of (Ok (literal.Bool l))
+parsed_of (Err e) = refusal_of e

@@ -2,26 +2,22 @@
 #![tactic(auto)]
 
 ghost use Rattle.std.specs.Prelude.{◌≡◌};
-ghost use Rattle.err.specs.Reading.{outcome_of};
-ghost use Rattle.boolean.specs.Bool.{bool_read};
+ghost use Rattle.boolean.specs.Bool.{bool_read, parsed_of};
 
-use err::{BoolLit, ParseErrorKind, Reading};
+use err::{BoolLit, ParseError, ParseErrorKind};
 
 // litrs's `BoolLit::parse`.
-pub fn parse(text: &[u8]) -> Reading
-    ensures { outcome_of result ≡ bool_read text.now }
+#[tactic(auto, using(crate::proofs::Laws::no_bool), unfolding(crate::specs::Bool::bool_read))]
+pub fn parse(text: &[u8]) -> Result<BoolLit, ParseError>
+    ensures { parsed_of result ≡ bool_read text.now }
 {
-    if scan::is_same(text, b"false") {
-        return Reading::Bool(BoolLit {
-            value: false,
-            end: text.len(),
-        });
-    }
-    if scan::is_same(text, b"true") {
-        return Reading::Bool(BoolLit {
-            value: true,
-            end: text.len(),
-        });
-    }
-    err::perr_nowhere(ParseErrorKind::InvalidLiteral)
+    let value = match text {
+        b"true" => true,
+        b"false" => false,
+        _ => return Err(err::perr_nowhere(ParseErrorKind::InvalidLiteral)),
+    };
+    Ok(BoolLit {
+        end: text.len(),
+        value,
+    })
 }

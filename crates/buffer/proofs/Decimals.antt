@@ -3,14 +3,17 @@
 use mathlib.Core.Path.{◌≡◌, refl, ap, sym, ◌∙◌}
 use mathlib.Core.Bool.{Bool, true, false}
 use mathlib.Core.List.{List, [], ◌∷◌, ◌++◌, append_assoc}
-use Prim.Native.Nat.{ℕ, zero, suc, ◌+◌, ◌-◌, ◌/◌, ◌%◌, ◌^◌, ◌≤◌, ◌<◌}
+use Prim.Native.Nat.{ℕ, zero, suc, ◌+◌, ◌-◌, ◌*◌, ◌/◌, ◌%◌, ◌^◌, ◌≤◌, ◌<◌}
 use native.Mathlib.Nat.{pow-suc}
 use native.Mathlib.Numerals.{add-one}
 use native.Mathlib.Omega.{arith}
 use lib.Dec.{ltb}
-use lib.ListN.{length, take, drop, set, get_or, length-append, length-drop, length-take, take-append-drop, get_or-append}
+use lib.ListN.{length, take, drop, set, get_or, length-append, length-take, take-append-drop, get_or-append}
 use lib.Seq.{take-length, take-suc, drop-cons, set_at, length-take-le, drop_at, take_at, get_or-take, get_or_at, take-take}
 use borrow.Author.Tests.{lt-ltb, le-ltb, ltb-true, ltb-false}
+use Rattle.std.specs.Prelude.{Option, Some, None}
+use Rattle.std.specs.Option.{IfNone, IfSome, MatchOption}
+use Rattle.std.proofs.Math.Nat.{one-le-pow}
 use Rattle.buffer.specs.Buffer.{over}
 use Rattle.buffer.specs.Digits.{decimal_below, decimal}
 
@@ -54,6 +57,21 @@ more_length n h = rw (more n h) (simp length-append)
 
 pub some : (n : ℕ) → 1 ≤ length (decimal n)
 some = by_digits (λ n l. 1 ≤ length l) (λ n h. omega arith) (λ n h p. simp length-append (omega arith))
+
+-- by the greatest power of ten in it
+pub by_power : (k n : ℕ) → 10 ^ k ≤ n → n < 10 * 10 ^ k → length (decimal n) ≡ k + 1
+by_power zero n l h = rw (last n (omega (arith, h))) refl
+by_power (suc k) n l h =
+    let some = one-le-pow k 10 (omega arith) in
+    let low = rw pow-suc at l in
+    let high = rw pow-suc at h in
+    omega (arith, more_length n (omega (arith, some, low)), by_power k (n / 10) (omega (arith, low)) (omega (arith, high)))
+
+-- where that power may not be: of zero there is none
+pub measured : (n m : ℕ) (o : Option ℕ) (Q : ℕ → Type 0) → IfNone o (n ≡ 0) → IfSome o (λ k. 10 ^ k ≤ n) → IfSome o (λ k. n < 10 * 10 ^ k)
+    → MatchOption o (m ≡ 1) Q → ((k : ℕ) → Q k → m ≡ k + 1) → m ≡ length (decimal n)
+measured n m (Some k) Q z l h e q = q k e ∙ sym (by_power k n l h)
+measured n m None Q z l h e q = e ∙ sym (ap (λ (u : List ℕ). length u) (last n (omega (arith, z))))
 
 pub decimal_short : (k n : ℕ) → 0 < k → n < 10 ^ k → length (decimal n) ≤ k
 decimal_short zero n p h = absurd (omega arith)
@@ -121,11 +139,6 @@ filled_start n k l e = record {
   bytes = rw (drop_at (decimal n) (drop (length (decimal n)) l) k (sym e), e) (sym (take-append-drop (length (decimal n)) l));
 }
 
-pub filled_length : {n rest i : ℕ} {l out : List ℕ} → Filled n rest i l out → length (decimal n) ≤ length l → i ≤ length (decimal n) → length out ≡ length l
-unfolding over
-filled_length {n} {rest} {i} {l} {out} f h g =
-    ap length f.bytes ∙ simp (length-append, length-drop, length-take-le i l (omega arith)) (omega arith)
-
 module _ (n j : ℕ) (l : List ℕ) (d : ℕ) (p : List ℕ) (at : length p ≡ j) (is : p ++ (d ∷ []) ≡ take (j + 1) (decimal n)) where
   inside : j < length (decimal n)
   inside = omega (arith, simp (length-append, length-take) at (ap length is))
@@ -143,7 +156,7 @@ module _ (n j : ℕ) (l : List ℕ) (d : ℕ) (p : List ℕ) (at : length p ≡ 
   before : p ≡ take j (decimal n)
   before = sym (take_at p (d ∷ []) j at) ∙ rw is (take-take j (j + 1) (decimal n) (omega arith))
 
-pub filled_more : {n rest i : ℕ} {l out : List ℕ} → 10 ≤ rest → length (decimal n) ≤ length l → Filled n rest i l out → Filled n (rest / 10) (i - 1) l (set out (i - 1) (48 + rest % 10))
+filled_more : {n rest i : ℕ} {l out : List ℕ} → 10 ≤ rest → length (decimal n) ≤ length l → Filled n rest i l out → Filled n (rest / 10) (i - 1) l (set out (i - 1) (48 + rest % 10))
 filled_more {n} {rest} {i} {l} {out} h room f = record {
   count = e;
   front = before n (i - 1) l (48 + rest % 10) (decimal (rest / 10)) (sym e) is;
@@ -159,9 +172,25 @@ filled_more {n} {rest} {i} {l} {out} h room f = record {
     is : decimal (rest / 10) ++ ((48 + rest % 10) ∷ []) ≡ take ((i - 1) + 1) (decimal n)
     is = rw back (sym (more rest h) ∙ f.front)
 
-pub filled_last : {n rest i : ℕ} {l out : List ℕ} → rest < 10 → length (decimal n) ≤ length l → Filled n rest i l out → set out 0 (48 + rest) ≡ over (decimal n) l
+filled_last : {n rest i : ℕ} {l out : List ℕ} → rest < 10 → length (decimal n) ≤ length l → Filled n rest i l out → set out 0 (48 + rest) ≡ over (decimal n) l
 filled_last {n} {rest} {i} {l} {out} h room f =
     rw (f.bytes, one) (placed n 0 l (48 + rest) [] refl (sym (last rest h) ∙ rw (← one) f.front) room)
   where
     one : i ≡ 0 + 1
     one = f.count ∙ rw (last rest h) refl
+
+-- one digit more, written before those that stand already; the first digit ends it
+pub filled_turn : {n rest i : ℕ} {l out : List ℕ} → length (decimal n) ≤ length l → Filled n rest i l out
+    → (0 < i - 1 → Filled n (rest / 10) (i - 1) l (set out (i - 1) (48 + rest % 10))) × (i - 1 ≡ 0 → set out (i - 1) (48 + rest % 10) ≡ over (decimal n) l)
+filled_turn {n} {rest} {i} {l} {out} room f = split (ltb rest 10) (ltb-true rest 10) (ltb-false rest 10)
+  where
+    split : (t : Bool) → (t ≡ true → rest < 10) → (t ≡ false → 10 ≤ rest)
+        → (0 < i - 1 → Filled n (rest / 10) (i - 1) l (set out (i - 1) (48 + rest % 10))) × (i - 1 ≡ 0 → set out (i - 1) (48 + rest % 10) ≡ over (decimal n) l)
+    split true a b =
+        let h = a refl in
+        let one : i ≡ 1 = f.count ∙ rw (last rest h) refl in
+        let digit : rest % 10 ≡ rest = omega arith in
+        (λ p. absurd (omega arith), λ z. rw (z, digit) (filled_last h room f))
+    split false a b =
+        let g = filled_more (b refl) room f in
+        (λ p. g, λ z. absurd (omega (arith, g.count, some (rest / 10))))

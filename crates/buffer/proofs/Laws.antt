@@ -6,37 +6,9 @@ use Prim.Native.Nat.{ℕ, suc, ◌+◌, ◌-◌, ◌≤◌, ◌<◌}
 use native.Mathlib.Omega.{arith}
 use native.Mathlib.Numerals.{add-one}
 use lib.ListN.{length, take, drop, set, get_or, length-append, length-drop, drop_of_length-le}
-use lib.Seq.{take_at, drop_at, drop-drop, drop-cons, set_at, take_all, take-suc}
+use lib.Seq.{take_at, drop_at, drop-drop, drop-cons, set_at, take_all}
 use borrow.Rule.Slice.PartMut.{put_mid}
 use Rattle.buffer.specs.Buffer.{over, Wrote}
-
--- ---- a piece of known length
-
-pub one : (l : List ℕ) (a : ℕ) → 1 ≤ length l → Wrote (a ∷ []) 1 l (set l 0 a)
-unfolding over
-one [] a h = absurd (omega arith)
-one (x ∷ l) a h = record { count = refl; bytes = refl }
-
-pub two : (l : List ℕ) (a b : ℕ) → 2 ≤ length l → Wrote (a ∷ b ∷ []) 2 l (set (set l 0 a) 1 b)
-unfolding over
-two [] a b h = absurd (omega arith)
-two (x ∷ []) a b h = absurd (omega arith)
-two (x ∷ y ∷ l) a b h = record { count = refl; bytes = refl }
-
-pub three : (l : List ℕ) (a b d : ℕ) → 3 ≤ length l → Wrote (a ∷ b ∷ d ∷ []) 3 l (set (set (set l 0 a) 1 b) 2 d)
-unfolding over
-three [] a b d h = absurd (omega arith)
-three (x ∷ []) a b d h = absurd (omega arith)
-three (x ∷ y ∷ []) a b d h = absurd (omega arith)
-three (x ∷ y ∷ z ∷ l) a b d h = record { count = refl; bytes = refl }
-
-pub four : (l : List ℕ) (a b d e : ℕ) → 4 ≤ length l → Wrote (a ∷ b ∷ d ∷ e ∷ []) 4 l (set (set (set (set l 0 a) 1 b) 2 d) 3 e)
-unfolding over
-four [] a b d e h = absurd (omega arith)
-four (x ∷ []) a b d e h = absurd (omega arith)
-four (x ∷ y ∷ []) a b d e h = absurd (omega arith)
-four (x ∷ y ∷ z ∷ []) a b d e h = absurd (omega arith)
-four (x ∷ y ∷ z ∷ w ∷ l) a b d e h = record { count = refl; bytes = refl }
 
 -- ---- pieces one after the other
 
@@ -92,12 +64,3 @@ stored {p} {at} {l} {out} a w h = record {
   bytes = rw (w.bytes, drop-cons l (length p) 0 (omega (arith, w.count)))
       (set_at p (get_or l (length p) 0) (drop (suc (length p)) l) a at (sym w.count) ∙ simp (append_assoc, length-append, add-one));
 }
-
--- a list copied byte by byte: one more, and to its end
-pub copied : {i : ℕ} {l out : List ℕ} (piece : List ℕ) → Wrote (take i piece) i l out → i < length piece → i < length l
-    → Wrote (take (i + 1) piece) (i + 1) l (set out i (get_or piece i 0))
-copied {i} piece w h g =
-    let e : take (i + 1) piece ≡ take i piece ++ (get_or piece i 0 ∷ []) = rw (add-one, take-suc piece i 0 h) in rw e (stored _ w g)
-
-pub copied_all : {i : ℕ} {l out : List ℕ} (piece : List ℕ) → Wrote (take i piece) i l out → length piece ≤ i → Wrote piece i l out
-copied_all {i} piece w h = rw (take_all i piece h) at w

@@ -15,18 +15,17 @@ ghost use Rattle.keyed.specs.Keyed.{keyed_of, keyed_counts, keyed_at};
 ghost use Rattle.numbers.specs.Numbers.{reading_numbers};
 ghost use Rattle.c_api.specs.ReturnValue.{return_value, value_after};
 
-use integer_value::IntegerValue;
-use keyed::Keyed;
+use err::{Literal, ParseError};
+use keyed::KeyedError;
 use settle::Settled;
-use string::Decoded;
 
 // What `keybasket_settle` returns: the form's length, or 100,000 plus the refusal number.
 fn settle_result(answer: Settled) -> usize
     ensures { result ≡ return_value (λ form. form.1) (settled_of answer) }
 {
     match answer {
-        Settled::Formed(_, n) => n,
-        Settled::Refused(kind, _) => numbers::refusal(kind),
+        Ok((_, n)) => n,
+        Err(error) => numbers::refusal(error.kind),
     }
 }
 
@@ -40,12 +39,12 @@ pub fn keybasket_settle(text: &[u8], out: &mut [u8]) -> usize
 }
 
 // What `keybasket_decode` returns: how many bytes were written, or 100,000 plus the refusal number.
-fn decode_result(answer: Decoded) -> usize
+fn decode_result(answer: Result<usize, ParseError>) -> usize
     ensures { result ≡ return_value (λ n. n) (decoded_of answer) }
 {
     match answer {
-        Decoded::Written(n) => n,
-        Decoded::Refused(kind, _) => numbers::refusal(kind),
+        Ok(n) => n,
+        Err(error) => numbers::refusal(error.kind),
     }
 }
 
@@ -64,13 +63,12 @@ pub fn keybasket_value(ty: u64, text: &[u8], value: &mut u64) -> usize
     ensures value_left { value.new ≡ value_after (value_at ty text.now) value.old }
     ensures text_unchanged { text.exit.now ≡ text.entry.now }
 {
-    let answer = literal::value(ty, text);
-    match answer {
-        IntegerValue::Given(n) => {
+    match literal::value(ty, text) {
+        Ok(n) => {
             *value = n;
             0
         }
-        IntegerValue::Refused(kind, _) => numbers::refusal(kind),
+        Err(error) => numbers::refusal(error.kind),
     }
 }
 
@@ -83,12 +81,13 @@ pub fn keybasket_read(entry: u64, text: &[u8], answer: &mut [u64; 8])
 }
 
 // What `keybasket_read_keyed` writes.
-fn keyed_numbers(found: Keyed) -> [u64; 8]
+fn keyed_numbers(found: Result<Literal, KeyedError>) -> [u64; 8]
     ensures { result ≡ reading_numbers (keyed_of found) (keyed_counts found) }
 {
     match found {
-        Keyed::Read(reading) => numbers::reading_numbers(reading),
-        Keyed::Refused(kind) => numbers::added_numbers(kind),
+        Ok(lit) => numbers::reading_numbers(Ok(lit)),
+        Err(KeyedError::Parse(error)) => numbers::reading_numbers(Err(error)),
+        Err(KeyedError::Added(kind)) => numbers::added_numbers(kind),
     }
 }
 
@@ -105,7 +104,7 @@ pub fn keybasket_integer_from_suffix(name: &[u8]) -> u64
     ensures answer { result ≡ integer_from_suffix name.now }
     ensures name_unchanged { name.exit.now ≡ name.entry.now }
 {
-    literal::integer_from_suffix(name) as u64
+    u64::from(literal::integer_from_suffix(name))
 }
 
 // The type code of the float type that a name stands for, 13 or 14, or 0.
@@ -113,5 +112,5 @@ pub fn keybasket_float_from_suffix(name: &[u8]) -> u64
     ensures answer { result ≡ float_from_suffix name.now }
     ensures name_unchanged { name.exit.now ≡ name.entry.now }
 {
-    literal::float_from_suffix(name) as u64
+    u64::from(literal::float_from_suffix(name))
 }

@@ -21,8 +21,7 @@ use Rattle.parse.proofs.Classes.{both}
 use Rattle.utf8.specs.Utf8.{Scalar, encode}
 use Rattle.utf8.specs.Decode.{decode}
 use Rattle.utf8.specs.Cut.{continuation}
-use Rattle.utf8.specs.declared.Decoded.{Decoded}
-use Rattle.utf8.specs.declared.Decoded.TheVariants as decoded
+use Rattle.std.specs.Prelude.{Option, Some, None}
 use Rattle.utf8.proofs.At.{found_at}
 use Rattle.utf8.proofs.Laws.{by_row, decode_encode}
 use Rattle.escape.specs.Escape.{Escaped, escape_of}
@@ -116,12 +115,12 @@ plain_sound : (q : Quote) (s : List ℕ) → s ≡ opening_of q ++ drop (offset_
     → Sound q s (closed_by q s (offset_of q) (plain_at q s (offset_of q)))
 plain_sound Char s opens l p = go (decode (drop 1 s)) refl
   where
-    go : (d : Decoded) → decode (drop 1 s) ≡ d → Sound Char s (closed_by Char s 1 (decoded_by d))
-    go (decoded.Char c n) e =
+    go : (d : Option (ℕ × ℕ)) → decode (drop 1 s) ≡ d → Sound Char s (closed_by Char s 1 (decoded_by d))
+    go (Some (c, n)) e =
         let f = found_at s 1 c n e in
         let first : get_or (encode c ++ drop (1 + n) s) 0 0 ≡ get_or s 1 0 = ap (λ (r : List ℕ). get_or r 0 0) f.1 ∙ get_or-drop 1 s 0 0 in
         closed_sound Char s opens (1 + n) c (encode c) (char refl f.0 (plain_char c _ (first_byte c (drop (1 + n) s)) (rw first p)) refl) f.1
-    go decoded.Bad e = (kinds_in Char (length s)).0
+    go None e = (kinds_in Char (length s)).0
 plain_sound Byte s opens l p =
     cond_lt (λ (o : Quoted). Sound Byte s (closed_by Byte s 2 o)) (get_or s 2 0) 128
     (λ h. closed_sound Byte s opens 3 (get_or s 2 0) (get_or s 2 0 ∷ []) (byte refl h p refl) (sym (drop-cons s 2 0 l)))
@@ -234,7 +233,7 @@ plain_complete s {v = v} t sc p is =
     let there : t.content ++ r ≡ encode v ++ r = rw is in
     let first : get_or s 1 0 ≡ get_or (encode v ++ r) 0 0 = first_is Char s t ∙ ap (λ (l : List ℕ). get_or l 0 0) there in
     of_plain Char s t (rw first (plain_byte v _ (first_byte v r) p))
-    ∙ ap (λ (d : Decoded). closed_by Char s 1 (decoded_by d)) (ap decode (past Char s t ∙ there) ∙ decode_encode v r sc)
+    ∙ ap (λ (d : Option (ℕ × ℕ)). closed_by Char s 1 (decoded_by d)) (ap decode (past Char s t ∙ there) ∙ decode_encode v r sc)
     ∙ closed_complete Char s t (length (encode v)) v (ap length (sym is)) refl
 
 ascii_complete : (s : List ℕ) {e v : ℕ} (t : Tiled Byte s e v) → v < 128 → Plain v → t.content ≡ v ∷ [] → single_at Byte s ≡ accepted 6 e (value v)

@@ -12,8 +12,7 @@ use Rattle.scan.proofs.Cases.{cond_in, by_lt}
 use Rattle.suffix.specs.Suffix.{suffix_fault}
 use Rattle.suffix.proofs.Suffixes.{fault_none, fault_cases}
 use Rattle.utf8.specs.Decode.{decode}
-use Rattle.utf8.specs.declared.Decoded.{Decoded}
-use Rattle.utf8.specs.declared.Decoded.TheVariants as decoded
+use Rattle.std.specs.Prelude.{Option, Some, None}
 use Rattle.utf8.proofs.At.{found_bounds}
 use Rattle.escape.specs.Escape.{Escaped, value, bad, escape_of}
 use Rattle.escape.specs.declared.Allowed.{Allowed}
@@ -56,9 +55,9 @@ module _ (s : List ℕ) (at : ℕ) (h : at < length s) where
   plain_inside : (q : Quote) → Inside s at (plain_at q s at)
   plain_inside Char = go (decode (drop at s)) refl
     where
-      go : (d : Decoded) → decode (drop at s) ≡ d → Inside s at (decoded_by d)
-      go (decoded.Char c n) e = (found_bounds s at c n e).1
-      go decoded.Bad e = tt
+      go : (d : Option (ℕ × ℕ)) → decode (drop at s) ≡ d → Inside s at (decoded_by d)
+      go (Some (c, n)) e = (found_bounds s at c n e).1
+      go None e = tt
   plain_inside Byte = cond_in (Inside s at) (ltb (get_or s at 0) 128) (λ f. omega arith) λ f. tt
 
   escaped_inside : (q : Quote) → Inside s at (escaped_at q s at)

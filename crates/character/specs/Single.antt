@@ -1,9 +1,8 @@
 -- What litrs's `CharLit::parse` and `ByteLit::parse` return (01, Quoted kinds), in their order of tests.
 -- Assumes nothing.
-use Rattle.std.specs.Prelude.{ℕ, ◌+◌, cond, List, [], ◌∷◌, eqb, ltb, length, get_or, drop}
-use Rattle.err.specs.Outcome.{Outcome, refused, accepted, none, between, shift, Ends, value}
-use Rattle.err.specs.Numbers.{number_of}
-use Rattle.err.specs.Reading.{place_of}
+use Rattle.std.specs.Prelude.{ℕ, ◌+◌, cond, List, [], ◌∷◌, eqb, ltb, length, get_or, drop, Result, Ok, Err}
+use Rattle.err.specs.Outcome.{Outcome, refused, accepted, none, between, shift, value}
+use Rattle.err.specs.Reading.{refusal_of}
 use Rattle.scan.specs.Run.{run}
 use Rattle.scan.specs.Sets.{except}
 use Rattle.suffix.specs.Suffix.{suffix_fault}
@@ -15,18 +14,12 @@ use Rattle.character_quote.specs.Quote.{quote_kind, offset_of, allowed_in, unter
 use Rattle.character_quote.specs.Content.{Quoted, content, fault, plain_at, special, quote_at}
 use Rattle.character_quote.specs.declared.Quote.{Quote}
 use Rattle.character_quote.specs.declared.Quote.TheVariants.{Char, Byte}
-use Rattle.character.specs.declared.Single.{Single}
-use Rattle.character.specs.declared.Single.TheVariants as single
+use Rattle.err.specs.declared.ParseError.{ParseError}
 
 -- document 01's numbers and values for each case
-abbrev pub single_of : Quote → Single → Outcome
-single_of q (single.Value v start) = accepted (quote_kind q) start (value v)
-single_of q (single.Refused k p) = refused (number_of k) (place_of p)
-
--- whether an answer is a refusal; serves a contract between functions
-abbrev pub IsRefused : Single → Type 0
-IsRefused (single.Value v start) = ⊥
-IsRefused (single.Refused k p) = Unit {0}
+abbrev pub single_of : Quote → Result (ℕ × ℕ) ParseError → Outcome
+single_of q (Ok (v, start)) = accepted (quote_kind q) start (value v)
+single_of q (Err e) = refusal_of e
 
 -- "In kinds 4 to 8 a suffix fault spans the suffix's first byte."
 unfoldable pub suffixed_at : Quote → List ℕ → ℕ → ℕ → Outcome
@@ -54,11 +47,6 @@ abbrev pub escaped_by : ℕ → Escaped → Quoted
 escaped_by at (escape.value u n) = content (scalar_of u) n
 escaped_by at (escape.bad num p) = fault num (shift at p)
 
--- an escape is refused, and its span ends within m bytes; serves a contract between functions
-abbrev pub FaultEnds : ℕ → Escaped → Type 0
-FaultEnds m (escape.value u n) = ⊥
-FaultEnds m (escape.bad num p) = Ends m p
-
 -- an escape: "in chars and bytes it does" see the text's last character
 unfoldable pub escaped_at : Quote → List ℕ → ℕ → Quoted
 escaped_at q s at = escaped_by at (escape_of (allowed_in q) (drop at s))
@@ -71,11 +59,6 @@ first_at q s at =
     (cond (special (get_or s at 0)) (fault 27 (between at (at + 1)))
     (cond (eqb (get_or s at 0) 92) (escaped_at q s at)
     (plain_at q s at)))
-
--- whether content is refused; serves a contract between functions
-abbrev pub IsFault : Quoted → Type 0
-IsFault (content v n) = ⊥
-IsFault (fault num p) = Unit {0}
 
 -- after the content the literal closes; a fault there is the literal's
 abbrev pub closed_by : Quote → List ℕ → ℕ → Quoted → Outcome

@@ -1,41 +1,37 @@
 // Char and byte literals: one character or byte between single quotes.
 #![tactic(auto)]
 
-ghost use Rattle.std.specs.Prelude.{◌≡◌, List, ℕ, ◌-◌, ◌≤◌, ◌<◌, length};
+ghost use Rattle.std.specs.Prelude.{◌≡◌, ◌≤◌, ◌<◌, length};
 ghost use Rattle.err.specs.Reading.{outcome_of};
 ghost use Rattle.character_quote.specs.Content.{inner_of};
-ghost use Rattle.escape.specs.Escape.{escaped_of};
-ghost use Rattle.character.specs.Single.{single_of, IsRefused, suffixed_at, closed_at, scalar_of, FaultEnds, escaped_by, escaped_at, first_at, IsFault, closed_by, single_at, read_by};
+ghost use Rattle.character.specs.Single.{single_of, suffixed_at, closed_at, scalar_of, escaped_at, first_at, single_at, read_by};
 
 use character_quote::{Inner, Quote};
-use err::{Checked, ParseErrorKind, Reading, Span};
-use escape::{Escape, Unescaped};
-use scan::ByteSet;
+use err::{Literal, ParseError, ParseErrorKind};
+use escape::Unescaped;
+use scan::Except;
 
 // The value and where the suffix starts, or why a text is no such literal.
-#[derive(Clone, Copy)]
-pub enum Single {
-    Value(u32, usize),
-    Refused(ParseErrorKind, Span),
-}
+pub type Single = Result<(u32, usize), ParseError>;
 
 // After the closing quote: the suffix, whose fault spans its first byte.
+#[tactic(auto, using(scan::proofs::Parts::part_to_end, err::proofs::Positive::number_positive, suffix::proofs::Suffixes::no_suffix), unfolding(crate::specs::Single::suffixed_at))]
 fn suffixed(text: &[u8], start: usize, value: u32, q: Quote) -> Single
     requires { start ≤ length text.now }
     ensures { single_of q result ≡ suffixed_at q text.now start value }
 {
     // most literals have no suffix
     if start == text.len() {
-        return Single::Value(value, start);
+        return Ok((value, start));
     }
-    let checked = suffix::check_suffix(&text[start..]);
-    let Checked::Bad(kind) = checked else {
-        return Single::Value(value, start);
+    let Err(kind) = suffix::check_suffix(&text[start..]) else {
+        return Ok((value, start));
     };
-    Single::Refused(kind, Span::Between(start, start + 1))
+    Err(err::perr(kind, start, start + 1))
 }
 
 // After the character: the closing quote, or a later one, or none.
+#[tactic(auto, using(scan::proofs::Parts::part_to_end, crate::proofs::Within::quote_there), unfolding(crate::specs::Single::closed_at))]
 fn closed(text: &[u8], at: usize, value: u32, q: Quote) -> Single
     requires { at ≤ length text.now }
     ensures { single_of q result ≡ closed_at q text.now at value }
@@ -44,10 +40,10 @@ fn closed(text: &[u8], at: usize, value: u32, q: Quote) -> Single
         return suffixed(text, at + 1, value, q);
     }
     let rest = &text[at..];
-    if scan::run_len(rest, ByteSet::Except(b'\'')) == rest.len() {
-        return Single::Refused(q.unterminated(), Span::Nowhere);
+    if scan::run_len(rest, Except(b'\'')) == rest.len() {
+        return Err(err::perr_nowhere(q.unterminated()));
     }
-    Single::Refused(q.overlong(), Span::Nowhere)
+    Err(err::perr_nowhere(q.overlong()))
 }
 
 // The number of a value. An escape is never a dropped line break.
@@ -56,49 +52,35 @@ fn scalar(u: Unescaped) -> u32
 {
     match u {
         Unescaped::Nothing => 0,
-        Unescaped::Byte(b) => b as u32,
+        Unescaped::Byte(b) => u32::from(b),
         Unescaped::Unicode(c) => c,
     }
 }
 
-// An escape's refusal, counted from the text's first byte.
-fn refused_escape(found: Escape, at: usize) -> Inner
-    requires { FaultEnds (18446744073709551615 - at) (escaped_of found) }
-    ensures { inner_of result ≡ escaped_by at (escaped_of found) }
-{
-    match found {
-        // ruled out by `requires`
-        Escape::Value(_, _) => Inner::Refused(ParseErrorKind::InvalidLiteral, Span::Nowhere),
-        Escape::Bad(kind, span) => Inner::Refused(kind, err::offset_span(span, at)),
-    }
-}
-
 // An escape, which sees the text to its end.
+#[tactic(auto, using(scan::proofs::Parts::part_to_end), unfolding(crate::specs::Single::escaped_at))]
 fn escaped(text: &[u8], at: usize, q: Quote) -> Inner
     requires { at < length text.now }
     ensures { inner_of result ≡ escaped_at q text.now at }
 {
-    let found = escape::unescape(&text[at..], q.allowed());
-    let Escape::Value(u, n) = found else {
-        return refused_escape(found, at);
-    };
-    Inner::Value(scalar(u), n)
+    match escape::unescape(&text[at..], q.allowed()) {
+        Ok((u, n)) => Ok((scalar(u), n)),
+        Err(error) => Err(error.offset_span(at)),
+    }
 }
 
 // The first byte between the quotes.
+#[tactic(auto, unfolding(crate::specs::Single::first_at))]
 fn first(text: &[u8], at: usize, q: Quote) -> Inner
     requires { at < length text.now }
     ensures { inner_of result ≡ first_at q text.now at }
 {
     let b = text[at];
     if b == b'\'' {
-        return character_quote::quote_first(text, at, q);
+        return Err(character_quote::quote_first(text, at, q));
     }
     if character_quote::is_special(b) {
-        return Inner::Refused(
-            ParseErrorKind::UnescapedSpecialWhitespace,
-            Span::Between(at, at + 1),
-        );
+        return Err(err::perr(ParseErrorKind::UnescapedSpecialWhitespace, at, at + 1));
     }
     if b == b'\\' {
         return escaped(text, at, q);
@@ -106,58 +88,30 @@ fn first(text: &[u8], at: usize, q: Quote) -> Inner
     character_quote::plain(text, at, q)
 }
 
-// The refusal of what stands between the quotes is the literal's, whatever the kind and wherever the content starts.
-fn refused_content(content: Inner) -> Single
-    requires { IsFault (inner_of content) }
-    ensures { (q : Quote) (s : List ℕ) (at : ℕ) → single_of q result ≡ closed_by q s at (inner_of content) }
-{
-    match content {
-        // ruled out by `requires`
-        Inner::Value(_, _) => Single::Refused(ParseErrorKind::InvalidLiteral, Span::Nowhere),
-        Inner::Refused(kind, span) => Single::Refused(kind, span),
-    }
-}
-
 // Of a text that starts with the quote.
+#[tactic(auto, using(crate::proofs::Within::content_ends), unfolding(crate::specs::Single::single_at))]
 fn parse_impl(text: &[u8], q: Quote) -> Single
     ensures { single_of q result ≡ single_at q text.now }
 {
     let at = q.offset();
     if text.len() <= at {
-        return Single::Refused(q.unterminated(), Span::Nowhere);
+        return Err(err::perr_nowhere(q.unterminated()));
     }
-    let content = first(text, at, q);
-    let Inner::Value(value, n) = content else {
-        return refused_content(content);
-    };
+    let (value, n) = first(text, at, q)?;
     closed(text, at + n, value, q)
 }
 
-// The refusal as a reading, the same for both kinds.
-fn refusal(lit: Single) -> Reading
-    requires { IsRefused lit }
-    ensures { (q : Quote) → outcome_of result ≡ single_of q lit }
-{
-    match lit {
-        // ruled out by `requires`
-        Single::Value(_, _) => err::perr_nowhere(ParseErrorKind::InvalidLiteral),
-        Single::Refused(kind, span) => Reading::Refused(kind, span),
-    }
-}
-
 // litrs's `CharLit::parse` and `ByteLit::parse`.
-pub fn parse(text: &[u8], q: Quote) -> Reading
+#[tactic(auto, using(crate::proofs::Start::read_none, crate::proofs::Start::read_some))]
+pub fn parse(text: &[u8], q: Quote) -> Result<Literal, ParseError>
     ensures { outcome_of result ≡ read_by q text.now }
 {
-    if text.len() == 0 {
-        return err::perr_nowhere(ParseErrorKind::Empty);
+    if text.is_empty() {
+        return Err(err::perr_nowhere(ParseErrorKind::Empty));
     }
     if !q.opens(text) {
-        return q.refused_start();
+        return Err(q.refused_start());
     }
-    let lit = parse_impl(text, q);
-    let Single::Value(value, start) = lit else {
-        return refusal(lit);
-    };
-    q.reading(value, start)
+    let (value, start) = parse_impl(text, q)?;
+    Ok(q.literal(value, start))
 }

@@ -1,17 +1,14 @@
 -- What litrs's `CharLit::parse` and `ByteLit::parse` find after the opening quote where it is no escape (01, Quoted kinds).
 -- Assumes nothing.
-use Rattle.std.specs.Prelude.{ℕ, ◌+◌, Bool, cond, ◌||◌, List, eqb, ltb, get_or, drop}
+use Rattle.std.specs.Prelude.{ℕ, ◌+◌, Bool, cond, ◌||◌, List, eqb, ltb, get_or, drop, Option, Some, None, Result, Ok, Err}
 use Rattle.err.specs.Outcome.{Place, none, between}
 use Rattle.err.specs.Numbers.{number_of}
 use Rattle.err.specs.Reading.{place_of}
 use Rattle.utf8.specs.Decode.{decode}
-use Rattle.utf8.specs.declared.Decoded.{Decoded}
-use Rattle.utf8.specs.declared.Decoded.TheVariants as decoded
+use Rattle.err.specs.declared.ParseError.{ParseError}
 use Rattle.character_quote.specs.Quote.{empty}
 use Rattle.character_quote.specs.declared.Quote.{Quote}
 use Rattle.character_quote.specs.declared.Quote.TheVariants.{Char, Byte}
-use Rattle.character_quote.specs.declared.Inner.{Inner}
-use Rattle.character_quote.specs.declared.Inner.TheVariants as inner
 
 -- what stands between the quotes: its number and how many bytes it has; or the refusal's number and its span
 pub data Quoted : Type 0 where
@@ -19,14 +16,14 @@ pub data Quoted : Type 0 where
   fault : ℕ → Place → Quoted
 
 -- 01's number and span for each case of the answer
-abbrev pub inner_of : Inner → Quoted
-inner_of (inner.Value v n) = content v n
-inner_of (inner.Refused k p) = fault (number_of k) (place_of p)
+abbrev pub inner_of : Result (ℕ × ℕ) ParseError → Quoted
+inner_of (Ok (v, n)) = content v n
+inner_of (Err e) = fault (number_of e.kind) (place_of e.span)
 
 -- the character, as RFC 3629 decodes it; in a UTF-8 text there is one unless the text ends there
-abbrev pub decoded_by : Decoded → Quoted
-decoded_by (decoded.Char c n) = content c n
-decoded_by decoded.Bad = fault 19 none
+abbrev pub decoded_by : Option (ℕ × ℕ) → Quoted
+decoded_by (Some (c, n)) = content c n
+decoded_by None = fault 19 none
 
 -- a character that stands for itself; in a byte literal a byte above 127 is refused with 25
 abbrev pub plain_at : Quote → List ℕ → ℕ → Quoted

@@ -1,16 +1,15 @@
 // In what char and byte literals differ, and what stands after their opening quote where it is no escape.
 #![tactic(auto)]
 
-ghost use Rattle.std.specs.Prelude.{◌≡◌, ◌<◌, length};
+ghost use Rattle.std.specs.Prelude.{◌≡◌, ◌<◌, length, Ok, Err};
 ghost use Rattle.err.specs.Outcome as outcome;
 ghost use Rattle.err.specs.Numbers.{number_of};
-ghost use Rattle.err.specs.Reading.{outcome_of};
+ghost use Rattle.err.specs.Reading.{refusal_of, outcome_of};
 ghost use Rattle.character_quote.specs.Quote.{quote_kind, offset_of, allowed_in, unterminated, overlong, empty, opens_by, start_fault, ValueFits};
 ghost use Rattle.character_quote.specs.Content.{inner_of, plain_at, special, quote_at};
 
-use err::{ByteLit, CharLit, ParseErrorKind, Reading, Span};
+use err::{ByteLit, CharLit, Literal, ParseError, ParseErrorKind};
 use escape::Allowed;
-use utf8::Decoded;
 
 // Which of the two kinds.
 #[derive(Clone, Copy)]
@@ -75,19 +74,14 @@ impl Quote {
         ensures { result ≡ opens_by self text.now }
     {
         match self {
-            Quote::Char => scan::byte_at(text, 0) == b'\'',
-            Quote::Byte => {
-                if text.len() < 2 {
-                    return false;
-                }
-                (text[0] == b'b') & (text[1] == b'\'')
-            }
+            Quote::Char => text.starts_with(b"'"),
+            Quote::Byte => text.starts_with(b"b'"),
         }
     }
 
     // What another start is refused with.
-    pub fn refused_start(self) -> Reading
-        ensures { outcome_of result ≡ start_fault self }
+    pub fn refused_start(self) -> ParseError
+        ensures { refusal_of result ≡ start_fault self }
     {
         match self {
             Quote::Char => err::perr(ParseErrorKind::DoesNotStartWithQuote, 0, 1),
@@ -95,17 +89,17 @@ impl Quote {
         }
     }
 
-    // The reading of a literal of the kind.
-    pub fn reading(self, value: u32, start_suffix: usize) -> Reading
+    // The literal of the kind.
+    pub fn literal(self, value: u32, start_suffix: usize) -> Literal
         requires { ValueFits self value }
-        ensures { outcome_of result ≡ outcome.accepted (quote_kind self) start_suffix (outcome.value value) }
+        ensures { outcome_of (Ok result) ≡ outcome.accepted (quote_kind self) start_suffix (outcome.value value) }
     {
         match self {
-            Quote::Char => Reading::Char(CharLit {
+            Quote::Char => Literal::Char(CharLit {
                 value,
                 start_suffix,
             }),
-            Quote::Byte => Reading::Byte(ByteLit {
+            Quote::Byte => Literal::Byte(ByteLit {
                 value: value as u8,
                 start_suffix,
             }),
@@ -114,21 +108,13 @@ impl Quote {
 }
 
 // What stands between the quotes: its number and how many bytes it has, or the refusal.
-#[derive(Clone, Copy)]
-pub enum Inner {
-    Value(u32, usize),
-    Refused(ParseErrorKind, Span),
-}
+pub type Inner = Result<(u32, usize), ParseError>;
 
 // A char that stands for itself.
 fn plain_char(text: &[u8], at: usize) -> Inner
     ensures { inner_of result ≡ plain_at Quote.Char text.now at }
 {
-    let found = utf8::decode_char(text, at);
-    let Decoded::Char { scalar, len } = found else {
-        return Inner::Refused(ParseErrorKind::UnterminatedCharLiteral, Span::Nowhere);
-    };
-    Inner::Value(scalar, len)
+    utf8::decode_char(text, at).ok_or(err::perr_nowhere(ParseErrorKind::UnterminatedCharLiteral))
 }
 
 // A byte that stands for itself.
@@ -138,12 +124,9 @@ fn plain_byte(text: &[u8], at: usize) -> Inner
 {
     let b = text[at];
     if b < 128 {
-        return Inner::Value(b as u32, 1);
+        return Ok((u32::from(b), 1));
     }
-    Inner::Refused(
-        ParseErrorKind::NonAsciiInByteLiteral,
-        Span::Between(at, at + 1),
-    )
+    Err(err::perr(ParseErrorKind::NonAsciiInByteLiteral, at, at + 1))
 }
 
 // A character that is no escape.
@@ -171,16 +154,14 @@ pub fn is_special(b: u8) -> bool
     b == b'\r'
 }
 
-// A quote at once: another after it is one that was not escaped.
-pub fn quote_first(text: &[u8], at: usize, q: Quote) -> Inner
+// The refusal of a quote at once: another after it makes it one that was not escaped.
+#[tactic(auto, unfolding(crate::specs::Content::quote_at))]
+pub fn quote_first(text: &[u8], at: usize, q: Quote) -> ParseError
     requires { at < length text.now }
-    ensures { inner_of result ≡ quote_at q text.now at }
+    ensures { inner_of (Err result) ≡ quote_at q text.now at }
 {
     if scan::byte_at(text, at + 1) == b'\'' {
-        return Inner::Refused(
-            ParseErrorKind::UnescapedSingleQuote,
-            Span::Between(at, at + 1),
-        );
+        return err::perr(ParseErrorKind::UnescapedSingleQuote, at, at + 1);
     }
-    Inner::Refused(q.empty(), Span::Nowhere)
+    err::perr_nowhere(q.empty())
 }

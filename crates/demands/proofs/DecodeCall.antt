@@ -9,6 +9,7 @@ use native.Mathlib.Omega.{arith}
 use borrow.Author.Tests.{leb-true, le-leb, lt-leb}
 use lib.Dec.{eqb, leb}
 use lib.ListN.{length}
+use Rattle.std.specs.Prelude.{Option, Some, None}
 use Rattle.err.specs.Outcome.{Place, none, Values, Outcome, refused, accepted}
 use Rattle.buffer.specs.Buffer.{over}
 use Rattle.scan.proofs.Cases.{cond_in, cond_eq}
@@ -22,28 +23,26 @@ use Rattle.string.proofs.Values.{value_short}
 use Rattle.text_check.specs.Checks.{text_fault}
 use Rattle.text_check.proofs.Checks.{long_fault, utf8_fault, no_fault, fault_passed}
 use Rattle.literal.specs.Decodes.{checked_decode, checked_buffer, kind_coded, decode_by, decode_buffer_by, decode_at, decode_buffer}
-use Rattle.literal.specs.declared.KindFound.{KindFound}
-use Rattle.literal.specs.declared.KindFound.TheVariants as found
 use Rattle.demands.specs.Demand1.{Readable, Decodes, DecodeAnswered, DecodeAnswers}
 use Rattle.demands.proofs.Numbered.{text_refused, or_42}
 
 -- ---- codes
 
-pub coded : (k : Allowed) → kind_coded (string_kind k) ≡ found.Kind k
+pub coded : (k : Allowed) → kind_coded (string_kind k) ≡ Some k
 unfolding kind_coded
 coded Text = refl
 coded Bytes = refl
 coded C = refl
 
-uncoded : (code : ℕ) → (Decodes code → ⊥) → kind_coded code ≡ found.Nothing
+uncoded : (code : ℕ) → (Decodes code → ⊥) → kind_coded code ≡ None
 unfolding kind_coded
 uncoded code n =
     cond_eq P code 5 (λ e. absurd (n (Text, e))) λ _.
     cond_eq P code 7 (λ e. absurd (n (Bytes, e))) λ _.
     cond_eq P code 8 (λ e. absurd (n (C, e))) λ _. refl
   where
-    P : KindFound → Type 0
-    P f = f ≡ found.Nothing
+    P : Option Allowed → Type 0
+    P f = f ≡ None
 
 -- ---- every call is answered
 
@@ -70,9 +69,9 @@ answered : (code room : ℕ) (s : List ℕ) → DecodeAnswered (length s) room (
 unfolding decode_at
 answered code room s = go (kind_coded code)
   where
-    go : (f : KindFound) → DecodeAnswered (length s) room (decode_by f s room)
-    go (found.Kind k) = checked_answered k room s
-    go found.Nothing = inr (inl refl, refl)
+    go : (f : Option Allowed) → DecodeAnswered (length s) room (decode_by f s room)
+    go (Some k) = checked_answered k room s
+    go None = inr (inl refl, refl)
 
 -- ---- how
 
@@ -142,9 +141,9 @@ untouched : (code : ℕ) (s buf : List ℕ) {n : ℕ} {p : Place} → decode_at 
 unfolding decode_at decode_buffer
 untouched code s buf {n} {p} = go (kind_coded code)
   where
-    go : (f : KindFound) → decode_by f s (length buf) ≡ refusal n p → decode_buffer_by f s buf ≡ buf
-    go (found.Kind k) h = subst (λ (d : Decode). Held (string_value k s) buf d (checked_buffer k s buf)) h (held_checked k s buf)
-    go found.Nothing h = refl
+    go : (f : Option Allowed) → decode_by f s (length buf) ≡ refusal n p → decode_buffer_by f s buf ≡ buf
+    go (Some k) h = subst (λ (d : Decode). Held (string_value k s) buf d (checked_buffer k s buf)) h (held_checked k s buf)
+    go None h = refl
 
 filled : (k : Allowed) (s buf : List ℕ) {n : ℕ} → decode_at (string_kind k) s (length buf) ≡ written n → decode_buffer (string_kind k) s buf ≡ over (string_value k s) buf
 unfolding decode_at decode_buffer

@@ -4,6 +4,7 @@ use mathlib.Core.Path.{◌≡◌, refl, ◌∙◌}
 use mathlib.Core.Bool.{true}
 use mathlib.Core.List.{List}
 use Prim.Native.Nat.{ℕ}
+use Rattle.std.specs.Prelude.{Option}
 use Rattle.scan.specs.Same.{same}
 use Rattle.scan.proofs.Cases.{cond_in}
 use Rattle.scan.proofs.Sames.{same_eq}
@@ -11,10 +12,8 @@ use Rattle.utf8.specs.Utf8.{encode}
 use Rattle.types.specs.Types.{named_in, integer_named, integer_code, float_named, float_code}
 use Rattle.types.specs.declared.IntegerType.{IntegerType}
 use Rattle.types.specs.declared.IntegerType.TheVariants.{U8, U16, U32, U64, U128, Usize, I8, I16, I32, I64, I128, Isize}
-use Rattle.types.specs.declared.IntegerFound.{IntegerFound}
 use Rattle.types.specs.declared.FloatType.{FloatType}
 use Rattle.types.specs.declared.FloatType.TheVariants.{F32, F64}
-use Rattle.types.specs.declared.FloatFound.{FloatFound}
 use Rattle.literal.specs.Suffixes.{code_of_integer, integer_from_suffix, code_of_float, float_from_suffix}
 use Rattle.demands.specs.Demand1.{integer_name, float_name, SuffixAnswers, Demand1}
 use Rattle.demands.proofs.ReadCall.{read_answers}
@@ -56,7 +55,7 @@ module _ (name : List ℕ) where
       cond_in P _ (is U128 refl) λ a. cond_in P _ (is Usize refl) λ a. cond_in P _ (is I8 refl) λ a. cond_in P _ (is I16 refl) λ a.
       cond_in P _ (is I32 refl) λ a. cond_in P _ (is I64 refl) λ a. cond_in P _ (is I128 refl) λ a. cond_in P _ (is Isize refl) λ a. refl
     where
-      P : IntegerFound → Type 0
+      P : Option IntegerType → Type 0
       P f = code_of_integer f ≡ 0
 
       is : {x : List ℕ} {A : Type 0} (t : IntegerType) → x ≡ integer_name t → same name x ≡ true → A
@@ -65,7 +64,7 @@ module _ (name : List ℕ) where
   no_float_named : ((t : FloatType) → name ≡ float_name t → ⊥) → float_from_suffix name ≡ 0
   unfolding encode float_named float_from_suffix
   no_float_named never =
-      let P : FloatFound → Type 0 = λ f. code_of_float f ≡ 0 in
+      let P : Option FloatType → Type 0 = λ f. code_of_float f ≡ 0 in
       cond_in P _ (λ h. absurd (never F32 (same_eq name _ h))) λ a. cond_in P _ (λ h. absurd (never F64 (same_eq name _ h))) λ a. refl
 
 suffix_answers : SuffixAnswers

@@ -1,17 +1,16 @@
 -- A settled form is UTF-8.
 -- Assumes nothing.
-use Prim.Native.Nat.{ℕ, zero, suc, ◌+◌, ◌/◌, ◌%◌, ◌<◌}
+use Prim.Native.Nat.{ℕ, zero, suc, ◌/◌, ◌%◌, ◌<◌}
 use mathlib.Core.Bool.{true, false, ◌&&◌}
 use mathlib.Core.List.{List, [], ◌∷◌, ◌++◌}
 use native.Mathlib.Omega.{arith}
 use lib.Dec.{T, eqb}
 use lib.ListN.{drop}
+use Rattle.std.specs.Prelude.{Option, Some, None}
 use Rattle.buffer.specs.Digits.{decimal, hex_digit, hex_digits}
 use Rattle.scan.proofs.Cases.{cond_in, cond_lt}
 use Rattle.utf8.specs.Utf8.{Scalar, Utf8}
 use Rattle.utf8.specs.Decode.{decode}
-use Rattle.utf8.specs.declared.Decoded.{Decoded}
-use Rattle.utf8.specs.declared.Decoded.TheVariants.{Char, Bad}
 use Rattle.utf8.proofs.Laws.{Found, decode_found}
 use Rattle.utf8.proofs.Text.{utf8_nil, utf8_one, utf8_append, utf8_ascii}
 use Rattle.grammar.specs.Notation.{all, begins, byte, ◌∪◌}
@@ -103,10 +102,10 @@ module _ (q : ℕ) (small : q < 128) where
   within_utf8 (suc k) [] = utf8_nil
   within_utf8 (suc k) (a ∷ v) = go (decode (a ∷ v)) (decode_found (a ∷ v)) (λ n. within_utf8 k (drop n (a ∷ v)))
     where
-      go : (d : Decoded) → Found (a ∷ v) d → ((n : ℕ) → Utf8 (char_forms_within q k (drop n (a ∷ v))))
-          → Utf8 (elim d [ Char c n ↦ char_form q c ++ char_forms_within q k (drop n (a ∷ v)) | Bad ↦ [] ])
-      go Bad f r = utf8_nil
-      go (Char c n) f r = utf8_append (char_form q c) (char_forms_within q k (drop n (a ∷ v))) (char_utf8 c f.0) (r n)
+      go : (d : Option (ℕ × ℕ)) → Found (a ∷ v) d → ((n : ℕ) → Utf8 (char_forms_within q k (drop n (a ∷ v))))
+          → Utf8 (elim d [ Some found ↦ char_form q found.0 ++ char_forms_within q k (drop found.1 (a ∷ v)) | None ↦ [] ])
+      go None f r = utf8_nil
+      go (Some (c, n)) f r = utf8_append (char_form q c) (char_forms_within q k (drop n (a ∷ v))) (char_utf8 c f.0) (r n)
 
   chars_utf8 : (v : List ℕ) → Utf8 (char_forms q v)
   unfolding char_forms

@@ -37,7 +37,6 @@ use Rattle.grammar.proofs.Runs.{T_true, true_T, and_l, and_r, and_i, or_l, span_
 use Rattle.grammar.proofs.Integers.{dec_open, dec_make, dec_all, digits_ok_lem, prefix_is, integer_iff}
 use Rattle.demands.specs.Demand1.{Readable}
 use Rattle.demands.specs.Demand2.{GivesInteger}
-use Rattle.scan.specs.Part.{part}
 use Rattle.demands.proofs.ValueCall.{fine_value}
 use Rattle.demands.proofs.Found.{Found}
 use Rattle.demands.proofs.Classes.{T_false, DigitsOf, bin_is, oct_is, dec_is, hex_digit_is, decimal_is, digit_is, value_is, all_to, all_from, stops_to, stops_from, some_to, some_from}

@@ -7,12 +7,11 @@ use Prim.Native.Nat.{ℕ, ◌+◌, ◌≤◌}
 use native.Mathlib.Omega.{arith}
 use lib.Dec.{leb}
 use lib.ListN.{length, drop}
+use Rattle.std.specs.Prelude.{Option, Some, None}
 use Rattle.err.specs.Outcome.{Place, none, Outcome, refused, accepted}
 use Rattle.err.specs.Answer.{Answer, returned, refusal}
 use Rattle.scan.proofs.Cases.{cond_in, cond_eq}
 use Rattle.types.specs.Types.{integer_coded}
-use Rattle.types.specs.declared.Largest.{Largest}
-use Rattle.types.specs.declared.Largest.TheVariants.{Value, NoValues}
 use Rattle.escape.specs.declared.Allowed.{Allowed}
 use Rattle.escape.specs.declared.Allowed.TheVariants.{Text, Bytes, C}
 use Rattle.integer.specs.Integer.{base_at, main_part, integer_read}
@@ -31,7 +30,6 @@ use Rattle.digits.specs.Counts.{digit_counts}
 use Rattle.keyed.specs.Keyed.{overlong, keyed_at}
 use Rattle.literal.specs.Values.{checked_value, largest_in, value_within, value_at}
 use Rattle.literal.specs.Decodes.{checked_decode, kind_coded, decode_by, decode_at}
-use Rattle.literal.specs.declared.KindFound.{KindFound}
 use Rattle.literal.proofs.Answers.{read_own}
 use Rattle.form_reading.specs.Worths.{worth_of}
 use Rattle.settle.specs.Settled.{FormAnswer, measured, measure_of, measure_at, fitted, settle_at}
@@ -89,9 +87,9 @@ value_at_lem : (code : ℕ) (s : List ℕ) → Spanned 2 s (value_at code s)
 unfolding value_at checked_value
 value_at_lem code s = go (largest_in (integer_coded code))
   where
-    go : (l : Largest) → Spanned 2 s (value_within l s)
-    go (Value largest) = cond_eq (Spanned {A = ℕ} 2 s) (text_fault s) 0 (value_spanned largest s) (unread 2 s)
-    go NoValues = added 2 s (omega arith)
+    go : (l : Option ℕ) → Spanned 2 s (value_within l s)
+    go (Some largest) = cond_eq (Spanned {A = ℕ} 2 s) (text_fault s) 0 (value_spanned largest s) (unread 2 s)
+    go None = added 2 s (omega arith)
 
 -- ---- decoding
 
@@ -123,7 +121,7 @@ decode_at_lem code s room =
     cond_eq P code 7 (of Bytes) λ _.
     cond_eq P code 8 (of C) λ _. added code s (omega arith)
   where
-    P : KindFound → Type 0
+    P : Option Allowed → Type 0
     P f = Spanned code s (decode_by f s room)
 
     of : (k : Allowed) → code ≡ string_kind k → Spanned code s (checked_decode k s room)

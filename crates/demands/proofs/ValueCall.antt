@@ -8,16 +8,13 @@ use native.Mathlib.Omega.{arith}
 use borrow.Author.Tests.{leb-true, le-leb, lt-leb}
 use lib.Dec.{leb}
 use lib.ListN.{length}
+use Rattle.std.specs.Prelude.{Option, Some, None}
 use Rattle.err.specs.Outcome.{Place, none, Values, Outcome, refused, accepted}
 use Rattle.scan.proofs.Cases.{cond_in, cond_eq}
 use Rattle.utf8.specs.Utf8.{Utf8}
 use Rattle.types.specs.Types.{integer_coded, largest_of}
 use Rattle.types.specs.declared.IntegerType.{IntegerType}
 use Rattle.types.specs.declared.IntegerType.TheVariants.{U8, U16, U32, U64, U128, Usize, I8, I16, I32, I64, I128, Isize}
-use Rattle.types.specs.declared.IntegerFound.{IntegerFound}
-use Rattle.types.specs.declared.IntegerFound.TheVariants as found
-use Rattle.types.specs.declared.Largest.{Largest}
-use Rattle.types.specs.declared.Largest.TheVariants.{Value, NoValues}
 use Rattle.integer.specs.Integer.{base_at, main_part, integer_read}
 use Rattle.integer.proofs.Refused.{refused_in}
 use Rattle.integer_value.specs.Value.{returned, refusal, number, of_reading, bounded, integer_lit_value}
@@ -28,9 +25,9 @@ use Rattle.demands.specs.Demand1.{Readable, ValueAnswered, ValueType, u8, u16, u
 use Rattle.demands.proofs.Numbered.{text_refused, or_42}
 
 -- no largest value is above 64 bits
-abbrev Small : Largest → Type 0
-Small (Value largest) = largest < 2 ^ 64
-Small NoValues = Unit {0}
+abbrev Small : Option ℕ → Type 0
+Small (Some largest) = largest < 2 ^ 64
+Small None = Unit {0}
 
 small : (t : IntegerType) → Small (largest_of t)
 small U8 = omega arith
@@ -46,9 +43,9 @@ small I64 = omega arith
 small I128 = tt
 small Isize = tt
 
-small_in : (f : IntegerFound) → Small (largest_in f)
-small_in (found.Type t) = small t
-small_in found.Nothing = tt
+small_in : (f : Option IntegerType) → Small (largest_in f)
+small_in (Some t) = small t
+small_in None = tt
 
 value_answered : (largest : ℕ) (s : List ℕ) → largest < 2 ^ 64 → ValueAnswered (length s) (integer_lit_value largest s)
 unfolding integer_lit_value
@@ -73,14 +70,13 @@ answered : (code : ℕ) (s : List ℕ) → ValueAnswered (length s) (value_at co
 unfolding value_at
 answered code s = go (largest_in (integer_coded code)) (small_in (integer_coded code))
   where
-    go : (l : Largest) → Small l → ValueAnswered (length s) (value_within l s)
-    go (Value largest) h = checked_answered largest s h
-    go NoValues h = inr (inl refl, refl)
+    go : (l : Option ℕ) → Small l → ValueAnswered (length s) (value_within l s)
+    go (Some largest) h = checked_answered largest s h
+    go None h = inr (inl refl, refl)
 
 -- ---- the types that have values
 
-typed : {code largest : ℕ} → ValueType code largest → largest_in (integer_coded code) ≡ Value largest
-unfolding integer_coded
+typed : {code largest : ℕ} → ValueType code largest → largest_in (integer_coded code) ≡ Some largest
 typed u8 = refl
 typed u16 = refl
 typed u32 = refl
@@ -91,8 +87,7 @@ typed i32 = refl
 typed i64 = refl
 
 -- no other code has
-untyped : (code : ℕ) → ((largest : ℕ) → ValueType code largest → ⊥) → largest_in (integer_coded code) ≡ NoValues
-unfolding integer_coded
+untyped : (code : ℕ) → ((largest : ℕ) → ValueType code largest → ⊥) → largest_in (integer_coded code) ≡ None
 untyped code never =
     cond_eq P code 1 (λ e. is u8 e) λ a.
     cond_eq P code 2 (λ e. is u16 e) λ a.
@@ -107,8 +102,8 @@ untyped code never =
     cond_eq P code 11 (λ e. refl) λ a.
     cond_eq P code 12 (λ e. refl) λ a. refl
   where
-    P : IntegerFound → Type 0
-    P f = largest_in f ≡ NoValues
+    P : Option IntegerType → Type 0
+    P f = largest_in f ≡ None
 
     is : {A : Type 0} {c largest : ℕ} → ValueType c largest → code ≡ c → A
     is {largest = largest} v e = absurd (never largest (subst (λ (n : ℕ). ValueType n largest) (sym e) v))
@@ -118,7 +113,7 @@ unfolding value_at
 bad_code code s h = rw (untyped code h)
 
 module _ (code largest : ℕ) (s : List ℕ) (v : ValueType code largest) where
-  l : largest_in (integer_coded code) ≡ Value largest
+  l : largest_in (integer_coded code) ≡ Some largest
   l = typed v
 
   too_long : 65536 < length s → value_at code s ≡ refusal 43 none

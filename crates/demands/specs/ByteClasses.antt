@@ -1,7 +1,7 @@
 -- Request e of document 02: "The byte classes shall be worked out by comparisons and the 256 entries dropped. Every class keeps its number."
 --
--- The contract of `parse::class_of`, which works out the class of a byte: r ≡ class_of b. The scans go by the same rule: the contract of `parse::run_len` is
--- r ≡ run (in_set set) s, and `in_set` tests a byte's class; that of `parse::digit_run` is `DigitScan`, by `digit` and `is_digit`, which do too. 01 lists the classes: "hex digit value 0 to 15; 16 `_`; 17 other ASCII letter; 18 space,
+-- The contract of `parse::class_of`, which works out the class of a byte: r ≡ class_of b. The scans go by the same rule: the contract of `scan::run_len` is
+-- r ≡ run (S.holds set) s, and the sets of `parse` test a byte's class; that of `parse::digit_run` is `DigitScan`, by `digit` and `is_digit`, which do too. 01 lists the classes: "hex digit value 0 to 15; 16 `_`; 17 other ASCII letter; 18 space,
 -- tab, LF; 19 other ASCII; 20 above 127".
 -- Assumes nothing.
 use Rattle.std.specs.Prelude.{ℕ, ◌-◌, ◌<◌, ◌≡◌, cond}

@@ -1,9 +1,11 @@
--- Which entry reads a text. But for the first, for contracts between functions, no sentence of a document; law `chosen_read` (literal) joins them
+-- Which entry reads a text. But for the first, for contracts between functions, no sentence of a document; law `kind_read` (literal) joins them
 -- to what reading returns.
 -- Assumes nothing.
-use Rattle.std.specs.Prelude.{ℕ, Bool, cond, ◌||◌, List, [], ◌∷◌, eqb, get_or}
+use Rattle.std.specs.Prelude.{ℕ, Bool, cond, ◌||◌, List, [], ◌∷◌, eqb, get_or, Option, Some, None}
 use Rattle.scan.specs.Run.{run}
 use Rattle.parse.specs.Sets.{digit, dec_digit, starts_e}
+use Rattle.err.specs.Kinds.{kind_code}
+use Rattle.err.specs.declared.Kind.{Kind}
 
 -- 01, Floats: "Entry 0 picks float when the first byte after the leading digits and `_` is `.`, `e` or `E`."
 -- 46 is `.`
@@ -42,3 +44,8 @@ entry_for (b ∷ s) = entry_by b (b ∷ s)
 -- the entry that reads a text by an entry code: that of the code, but for 0
 unfoldable pub chosen_entry : ℕ → List ℕ → ℕ
 chosen_entry code s = cond (eqb code 0) (entry_for s) code
+
+-- the entry of the kind that was chosen; 9 where none was
+abbrev pub entry_code : Option Kind → ℕ
+entry_code (Some k) = kind_code k
+entry_code None = 9

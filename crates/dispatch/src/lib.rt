@@ -1,15 +1,18 @@
 // Which entry reads a text.
 #![tactic(auto)]
 
-ghost use Rattle.std.specs.Prelude.{◌≡◌};
-ghost use Rattle.dispatch.specs.Entries.{starts_float, number_entry, byte_entry, entry_for, chosen_entry};
+ghost use Rattle.std.specs.Prelude.{◌≡◌, min};
+ghost use Rattle.dispatch.specs.Entries.{starts_float, number_entry, byte_entry, entry_for, chosen_entry, entry_code};
+ghost use Rattle.err.specs.Kinds.{kind_code};
+
+use err::Kind;
 
 // Whether a number with leading digits and `_` is a float: the first byte after them is `.`, `e` or `E`.
+#[tactic(auto, unfolding(crate::specs::Entries::starts_float))]
 fn starts_float(text: &[u8]) -> bool
     ensures { result ≡ starts_float text.now }
 {
-    let run = digits::end_dec_digits(text);
-    let end = run.end;
+    let end = digits::end_dec_digits(text).end;
     if scan::byte_at(text, end) == b'.' {
         return true;
     }
@@ -17,60 +20,55 @@ fn starts_float(text: &[u8]) -> bool
 }
 
 // Float or integer, for a text that starts with a decimal digit.
-fn number_entry(text: &[u8]) -> u64
-    ensures { result ≡ number_entry text.now }
+#[tactic(auto, unfolding(crate::specs::Entries::number_entry))]
+fn number_entry(text: &[u8]) -> Kind
+    ensures { kind_code result ≡ number_entry text.now }
 {
-    if starts_float(text) { 3 } else { 2 }
+    if starts_float(text) {
+        Kind::Float
+    } else {
+        Kind::Integer
+    }
 }
 
 // Of a text that starts with `b`: a byte, a byte string, or nothing that is known.
-fn b_entry(text: &[u8]) -> u64
-    ensures { result ≡ byte_entry text.now }
+#[tactic(auto, unfolding(crate::specs::Entries::byte_entry))]
+fn b_entry(text: &[u8]) -> Option<Kind>
+    ensures { entry_code result ≡ byte_entry text.now }
 {
-    match scan::byte_at(text, 1) {
-        b'\'' => 6,
-        b'r' => 7,
-        b'"' => 7,
-        _ => 9,
+    match text.get(1) {
+        Some(b'\'') => Some(Kind::Byte),
+        Some(b'r' | b'"') => Some(Kind::ByteString),
+        _ => None,
     }
 }
 
-// The entry that reads a text, by its first byte; 9 where none does. No bytes are refused as by entry 2.
-fn entry_for(text: &[u8]) -> u64
-    ensures { result ≡ entry_for text.now }
+// The kind that entry 0 reads a text as, by its first byte, if it is known. No bytes are refused as by the integers' entry.
+pub fn entry_for(text: &[u8]) -> Option<Kind>
+    ensures { entry_code result ≡ entry_for text.now }
 {
-    if text.len() == 0 {
-        return 2;
-    }
-    let b = text[0];
-    // most texts are strings
-    if b == b'"' {
-        return 5;
-    }
-    if b == b'\'' {
-        return 4;
-    }
-    if b == b'b' {
-        return b_entry(text);
-    }
-    if parse::is_decimal(b) {
-        return number_entry(text);
-    }
-    match b {
-        b'f' => 1,
-        b't' => 1,
-        b'r' => 5,
-        b'c' => 8,
-        _ => 9,
+    let Some(b) = text.first() else {
+        return Some(Kind::Integer);
+    };
+    match *b {
+        // most texts are strings
+        b'"' | b'r' => Some(Kind::String),
+        b'\'' => Some(Kind::Char),
+        b'b' => b_entry(text),
+        b'f' | b't' => Some(Kind::Bool),
+        b'c' => Some(Kind::CString),
+        b'0'..=b'9' => Some(number_entry(text)),
+        _ => None,
     }
 }
 
-// The entry that reads a text by an entry code: that of the code, but for 0.
-pub fn chosen(code: u64, text: &[u8]) -> u64
-    ensures { result ≡ chosen_entry code text.now }
+// The kind that reads a text by an entry code: that of the code, but for 0. Codes above 8 have none.
+#[tactic(auto, unfolding(crate::specs::Entries::chosen_entry))]
+pub fn chosen(code: u64, text: &[u8]) -> Option<Kind>
+    ensures { entry_code result ≡ chosen_entry (min code 9) text.now }
 {
     if code == 0 {
         return entry_for(text);
     }
-    code
+    Kind::from_code(code)
 }

@@ -3,24 +3,24 @@
 use mathlib.Core.Path.{◌≡◌, refl}
 use mathlib.Core.List.{List, [], ◌∷◌}
 use Prim.Native.Nat.{ℕ}
+use Rattle.std.specs.Prelude.{Ok}
 use types.Run.{OneOf, miss}
 use denote.Enum.Declared.{tag_of}
 use Rattle.err.specs.Counts.{no_counts, counts_of}
-use Rattle.err.specs.declared.Reading.{Reading}
-use Rattle.err.specs.declared.Reading.TheVariants as reading
-use Rattle.err.specs.contracts.Reading.{the_type}
+use Rattle.err.specs.declared.Literal.{Literal}
+use Rattle.err.specs.declared.Literal.TheVariants as literal
+use Rattle.err.specs.contracts.Literal.{the_type}
 
 -- the variants other than `Integer` and `Float`
 abbrev pub others : List ℕ
-others = 0 ∷ 1 ∷ 4 ∷ 5 ∷ 6 ∷ 7 ∷ 8 ∷ []
+others = 0 ∷ 3 ∷ 4 ∷ 5 ∷ 6 ∷ 7 ∷ []
 
-pub no_number : (r : Reading) → OneOf others (tag_of the_type r) → counts_of r ≡ no_counts
-no_number (reading.Refused k p) o = refl
-no_number (reading.Bool l) o = refl
-no_number (reading.Integer l) o = absurd (miss others 2 tt o)
-no_number (reading.Float l) o = absurd (miss others 3 tt o)
-no_number (reading.Char l) o = refl
-no_number (reading.String l) o = refl
-no_number (reading.Byte l) o = refl
-no_number (reading.ByteString l) o = refl
-no_number (reading.CString l) o = refl
+pub no_number : (l : Literal) → OneOf others (tag_of the_type l) → counts_of (Ok l) ≡ no_counts
+no_number (literal.Bool l) o = refl
+no_number (literal.Integer l) o = absurd (miss others 1 tt o)
+no_number (literal.Float l) o = absurd (miss others 2 tt o)
+no_number (literal.Char l) o = refl
+no_number (literal.String l) o = refl
+no_number (literal.Byte l) o = refl
+no_number (literal.ByteString l) o = refl
+no_number (literal.CString l) o = refl

@@ -1,11 +1,10 @@
 -- What a check finds, by the refusal's number.
 -- Assumes nothing.
-use Rattle.std.specs.Prelude.{ℕ}
+use Rattle.std.specs.Prelude.{ℕ, Result, Ok, Err}
 use Rattle.err.specs.Numbers.{number_of}
-use Rattle.err.specs.declared.Checked.{Checked}
-use Rattle.err.specs.declared.Checked.TheVariants.{Good, Bad}
+use Rattle.err.specs.declared.ParseErrorKind.{ParseErrorKind}
 
 -- 0 where nothing is wrong
-abbrev pub checked_of : Checked → ℕ
-checked_of Good = 0
-checked_of (Bad k) = number_of k
+abbrev pub checked_of : Result (Unit {0}) ParseErrorKind → ℕ
+checked_of (Ok u) = 0
+checked_of (Err k) = number_of k

@@ -1,10 +1,10 @@
 -- How many digits the parts of a number have: what readings carry since request d of document 02. The counts stand beside what litrs itself returns
 -- (`outcome_of`), which has none.
 -- Assumes nothing.
-use Rattle.std.specs.Prelude.{ℕ}
+use Rattle.std.specs.Prelude.{ℕ, Ok, Err}
 use Rattle.err.specs.Outcome.{Outcome, refused, accepted}
-use Rattle.err.specs.declared.Reading.{Reading}
-use Rattle.err.specs.declared.Reading.TheVariants as reading
+use Rattle.err.specs.Reading.{Reading}
+use Rattle.err.specs.declared.Literal.TheVariants as literal
 
 -- of a float: "in whole and fractional part", and in the exponent
 pub record FloatCounts : Type 0 where
@@ -20,15 +20,15 @@ pub data Counts : Type 0 where
 
 -- the counts that a reading holds
 abbrev pub counts_of : Reading → Counts
-counts_of (reading.Refused k p) = no_counts
-counts_of (reading.Bool l) = no_counts
-counts_of (reading.Integer l) = integer_count l.digits
-counts_of (reading.Float l) = float_counts (record { whole = l.integer_digits; fraction = l.fractional_digits; exponent = l.exponent_digits })
-counts_of (reading.Char l) = no_counts
-counts_of (reading.String l) = no_counts
-counts_of (reading.Byte l) = no_counts
-counts_of (reading.ByteString l) = no_counts
-counts_of (reading.CString l) = no_counts
+counts_of (Err e) = no_counts
+counts_of (Ok (literal.Bool l)) = no_counts
+counts_of (Ok (literal.Integer l)) = integer_count l.digits
+counts_of (Ok (literal.Float l)) = float_counts (record { whole = l.integer_digits; fraction = l.fractional_digits; exponent = l.exponent_digits })
+counts_of (Ok (literal.Char l)) = no_counts
+counts_of (Ok (literal.String l)) = no_counts
+counts_of (Ok (literal.Byte l)) = no_counts
+counts_of (Ok (literal.ByteString l)) = no_counts
+counts_of (Ok (literal.CString l)) = no_counts
 
 -- these counts where an outcome is accepted, none where it is refused; serves contracts between functions
 abbrev pub kept_counts : Counts → Outcome → Counts

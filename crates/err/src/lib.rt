@@ -1,19 +1,20 @@
-// Spans, error kinds, what a check finds, and readings: what every parser here returns.
+// Spans, errors, literals and readings: what every parser here returns.
 #![tactic(auto)]
 
-ghost use Rattle.std.specs.Prelude.{◌≡◌, length, ◌-◌};
+ghost use Rattle.std.specs.Prelude.{◌≡◌, ◌-◌, Ok};
 ghost use Rattle.err.specs.Numbers.{number_of};
 ghost use Rattle.err.specs.Outcome.{refused, none, between, shift, Ends};
-ghost use Rattle.err.specs.Reading.{place_of, base_of, prefix_of, prefix_bytes, outcome_of};
+ghost use Rattle.err.specs.Reading.{place_of, base_of, prefix_of, refusal_of, outcome_of, kind_in, suffix_in};
+ghost use Rattle.err.specs.Kinds.{kind_code, kind_coded};
 
 // No text and no form is longer (01: "65,536 bytes").
 pub const MAX_LEN: usize = 65536;
 
-// Where a refusal stands: nowhere, or from one offset to another, the second excluded.
+// From one offset to another, the second excluded.
 #[derive(Clone, Copy)]
-pub enum Span {
-    Nowhere,
-    Between(usize, usize),
+pub struct Span {
+    pub start: usize,
+    pub end: usize,
 }
 
 // Why a text is refused: litrs's error kinds, and from BadCode on those that were added.
@@ -69,11 +70,30 @@ pub enum ParseErrorKind {
     OutTooSmall,
 }
 
-// What a check finds: nothing, or why the text is refused.
+// Why a text is refused, and where, if there is a place: litrs's `ParseError`.
 #[derive(Clone, Copy)]
-pub enum Checked {
-    Good,
-    Bad(ParseErrorKind),
+pub struct ParseError {
+    pub span: Option<Span>,
+    pub kind: ParseErrorKind,
+}
+
+impl ParseError {
+    // The same error with its span counted from an offset before its text.
+    pub fn offset_span(self, offset: usize) -> ParseError
+        requires { Ends (18446744073709551615 - offset) (place_of self.span) }
+        ensures { refusal_of result ≡ refused (number_of self.kind) (shift offset (place_of self.span)) }
+    {
+        let Some(span) = self.span else {
+            return self;
+        };
+        ParseError {
+            span: Some(Span {
+                start: span.start + offset,
+                end: span.end + offset,
+            }),
+            kind: self.kind,
+        }
+    }
 }
 
 #[derive(Clone, Copy)]
@@ -82,13 +102,6 @@ pub enum IntegerBase {
     Octal,
     Decimal,
     Hexadecimal,
-}
-
-// A base's prefix: its bytes, zeros after them, and how many there are.
-#[derive(Clone, Copy)]
-pub struct Prefix {
-    pub bytes: [u8; 2],
-    pub len: usize,
 }
 
 impl IntegerBase {
@@ -105,26 +118,14 @@ impl IntegerBase {
     }
 
     // `0b`, `0o`, nothing or `0x`.
-    pub fn prefix(self) -> Prefix
-        ensures { (result.len ≡ length (prefix_of self)) × (result.bytes ≡ prefix_bytes self) }
+    pub fn prefix(self) -> &'static [u8]
+        ensures { result.now ≡ prefix_of self }
     {
         match self {
-            IntegerBase::Binary => Prefix {
-                bytes: [48, 98],
-                len: 2,
-            },
-            IntegerBase::Octal => Prefix {
-                bytes: [48, 111],
-                len: 2,
-            },
-            IntegerBase::Decimal => Prefix {
-                bytes: [0, 0],
-                len: 0,
-            },
-            IntegerBase::Hexadecimal => Prefix {
-                bytes: [48, 120],
-                len: 2,
-            },
+            IntegerBase::Binary => b"0b",
+            IntegerBase::Octal => b"0o",
+            IntegerBase::Decimal => b"",
+            IntegerBase::Hexadecimal => b"0x",
         }
     }
 }
@@ -170,25 +171,65 @@ pub struct ByteLit {
     pub value: u8,
 }
 
-// How many hashes a raw string has, or that it is not raw.
-#[derive(Clone, Copy)]
-pub enum Hashes {
-    NotRaw,
-    Raw(u8),
-}
-
-// A string, a byte string or a C string: its value is not kept, only how many bytes it has.
+// A string, a byte string or a C string: its value is not kept, only how many bytes it has. A raw one has a number of hashes.
 #[derive(Clone, Copy)]
 pub struct StringLit {
     pub value_len: usize,
     pub start_suffix: usize,
-    pub hashes: Hashes,
+    pub hashes: Option<u8>,
 }
 
-// What reading a text returns.
+// The kinds of literals.
 #[derive(Clone, Copy)]
-pub enum Reading {
-    Refused(ParseErrorKind, Span),
+pub enum Kind {
+    Bool,
+    Integer,
+    Float,
+    Char,
+    String,
+    Byte,
+    ByteString,
+    CString,
+}
+
+impl Kind {
+    // The kind that a code stands for, if it is one from 1 to 8.
+    pub fn from_code(code: u64) -> Option<Kind>
+        ensures { result ≡ kind_coded code }
+    {
+        match code {
+            1 => Some(Kind::Bool),
+            2 => Some(Kind::Integer),
+            3 => Some(Kind::Float),
+            4 => Some(Kind::Char),
+            5 => Some(Kind::String),
+            6 => Some(Kind::Byte),
+            7 => Some(Kind::ByteString),
+            8 => Some(Kind::CString),
+            _ => None,
+        }
+    }
+
+    // The kind's code: 1 to 8.
+    pub fn code(self) -> u8
+        ensures { result ≡ kind_code self }
+    {
+        match self {
+            Kind::Bool => 1,
+            Kind::Integer => 2,
+            Kind::Float => 3,
+            Kind::Char => 4,
+            Kind::String => 5,
+            Kind::Byte => 6,
+            Kind::ByteString => 7,
+            Kind::CString => 8,
+        }
+    }
+}
+
+// A literal of any kind: litrs's `Literal`.
+#[derive(Clone, Copy)]
+pub enum Literal {
     Bool(BoolLit),
     Integer(IntegerLit),
     Float(FloatLit),
@@ -198,6 +239,42 @@ pub enum Reading {
     ByteString(StringLit),
     CString(StringLit),
 }
+
+impl Literal {
+    pub fn kind(self) -> Kind
+        ensures { kind_code result ≡ kind_in (outcome_of (Ok self)) }
+    {
+        match self {
+            Literal::Bool(_) => Kind::Bool,
+            Literal::Integer(_) => Kind::Integer,
+            Literal::Float(_) => Kind::Float,
+            Literal::Char(_) => Kind::Char,
+            Literal::String(_) => Kind::String,
+            Literal::Byte(_) => Kind::Byte,
+            Literal::ByteString(_) => Kind::ByteString,
+            Literal::CString(_) => Kind::CString,
+        }
+    }
+
+    // Where the suffix starts.
+    pub fn start_suffix(self) -> usize
+        ensures { result ≡ suffix_in (outcome_of (Ok self)) }
+    {
+        match self {
+            Literal::Bool(lit) => lit.end,
+            Literal::Integer(lit) => lit.end_main_part,
+            Literal::Float(lit) => lit.end_number_part,
+            Literal::Char(lit) => lit.start_suffix,
+            Literal::String(lit) => lit.start_suffix,
+            Literal::Byte(lit) => lit.start_suffix,
+            Literal::ByteString(lit) => lit.start_suffix,
+            Literal::CString(lit) => lit.start_suffix,
+        }
+    }
+}
+
+// What reading a text returns.
+pub type Reading = Result<Literal, ParseError>;
 
 // The number of an error kind.
 pub fn number(k: ParseErrorKind) -> u8
@@ -255,27 +332,19 @@ pub fn number(k: ParseErrorKind) -> u8
     }
 }
 
-// A refusal at a span, as litrs's perr with a range.
-pub fn perr(kind: ParseErrorKind, from: usize, to: usize) -> Reading
-    ensures { outcome_of result ≡ refused (number_of kind) (between from to) }
+// A refusal at a span, as litrs's `perr` with a range.
+pub fn perr(kind: ParseErrorKind, start: usize, end: usize) -> ParseError
+    ensures { refusal_of result ≡ refused (number_of kind) (between start end) }
 {
-    Reading::Refused(kind, Span::Between(from, to))
-}
-
-// A refusal with no span, as litrs's perr with None.
-pub fn perr_nowhere(kind: ParseErrorKind) -> Reading
-    ensures { outcome_of result ≡ refused (number_of kind) none }
-{
-    Reading::Refused(kind, Span::Nowhere)
-}
-
-// A span counted from an offset before its text.
-pub fn offset_span(span: Span, by: usize) -> Span
-    requires { Ends (18446744073709551615 - by) (place_of span) }
-    ensures { place_of result ≡ shift by (place_of span) }
-{
-    match span {
-        Span::Nowhere => Span::Nowhere,
-        Span::Between(from, to) => Span::Between(from + by, to + by),
+    ParseError {
+        span: Some(Span { start, end }),
+        kind,
     }
+}
+
+// A refusal with no span, as litrs's `perr` with `None`.
+pub fn perr_nowhere(kind: ParseErrorKind) -> ParseError
+    ensures { refusal_of result ≡ refused (number_of kind) none }
+{
+    ParseError { span: None, kind }
 }

@@ -1,24 +1,29 @@
 -- One law for each way through an escape.
 -- Assumes nothing.
-use mathlib.Core.Path.{◌≡◌, refl}
+use mathlib.Core.Path.{◌≡◌}
 use mathlib.Core.Bool.{true, false, and-false}
 use mathlib.Core.List.{List, [], ◌∷◌}
 use Prim.Native.Nat.{ℕ, ◌+◌, ◌*◌, ◌≤◌, ◌<◌}
 use native.Mathlib.Omega.{arith}
 use borrow.Author.Tests.{lt-ltb, le-ltb, le-leb, eq-eqb, ne_eqb}
-use lib.Dec.{eqb}
 use lib.ListN.{length, get_or, take, drop}
-use Rattle.err.specs.Outcome.{between}
+use Rattle.std.specs.Prelude.{Some, None}
+use Rattle.err.specs.Outcome.{Place, refused, between}
 use Rattle.scan.specs.Run.{run}
 use Rattle.scan.specs.Sets.{except}
 use Rattle.parse.specs.Sets.{hex_digit_of}
-use Rattle.parse.specs.declared.HexDigit.TheVariants.{Value, NotHex}
 use Rattle.utf8.specs.Cut.{is_boundary}
 use Rattle.escape.specs.Allows.{unicode, allow_nul}
 use Rattle.escape.specs.declared.Allowed.{Allowed}
 use Rattle.escape.specs.declared.Unescaped.TheVariants.{Byte}
 use Rattle.escape.specs.Escape.{value, bad, simple_escape_of, x_byte, x_escape, hex_from, bad_start, u_hex, u_inner, u_braced, u_escape, escape_by, escape_of}
 use Rattle.escape.proofs.Hexes.{is_hex, not_hex}
+
+-- ---- a refusal
+
+-- what a refusal says, as an escape's result
+pub refused_is_bad : {m n : ℕ} {p q : Place} → refused m p ≡ refused n q → bad m p ≡ bad n q
+refused_is_bad e = cc
 
 -- ---- `\x`
 
@@ -32,16 +37,16 @@ module _ (k : Allowed) (s : List ℕ) where
   x_short h = x_cut (rw (le-leb (length s) 4 (omega arith), ne_eqb (length s) 4 (λ e. omega arith)))
 
   module _ (there : is_boundary s 4 ≡ true) where
-    pub x_first : hex_digit_of (get_or s 2 0) ≡ NotHex → bad 10 (between 0 4) ≡ x_escape k s
+    pub x_first : hex_digit_of (get_or s 2 0) ≡ None → bad 10 (between 0 4) ≡ x_escape k s
     unfolding x_escape
     x_first e = rw (there, not_hex _ e)
 
-    module _ (a : ℕ) (first : hex_digit_of (get_or s 2 0) ≡ Value a) where
-      pub x_second : hex_digit_of (get_or s 3 0) ≡ NotHex → bad 10 (between 0 4) ≡ x_escape k s
+    module _ (a : ℕ) (first : hex_digit_of (get_or s 2 0) ≡ Some a) where
+      pub x_second : hex_digit_of (get_or s 3 0) ≡ None → bad 10 (between 0 4) ≡ x_escape k s
       unfolding x_escape
       x_second e = rw (there, not_hex _ e, and-false)
 
-      pub x_value : (b : ℕ) → hex_digit_of (get_or s 3 0) ≡ Value b → x_byte k (b + 16 * a) ≡ x_escape k s
+      pub x_value : (b : ℕ) → hex_digit_of (get_or s 3 0) ≡ Some b → x_byte k (b + 16 * a) ≡ x_escape k s
       unfolding x_escape
       x_value b e =
           let p = is_hex _ _ first in
@@ -49,16 +54,6 @@ module _ (k : Allowed) (s : List ℕ) where
           rw (there, p.1, q.1, p.0, q.0)
 
 -- ---- `\u`
-
-pub start_none : (d : List ℕ) → length d ≡ 0 → bad_start d ≡ true
-unfolding bad_start
-start_none [] h = refl
-start_none (b ∷ d) h = absurd (omega arith)
-
-pub start_some : (d : List ℕ) → (length d ≡ 0 → ⊥) → bad_start d ≡ eqb (get_or d 0 0) 95
-unfolding bad_start
-start_some [] h = absurd (omega arith)
-start_some (b ∷ d) h = refl
 
 module _ (k : Allowed) (d : List ℕ) where
   pub inner_start : bad_start d ≡ true → bad 13 (between 3 4) ≡ u_inner k d
@@ -111,20 +106,11 @@ module _ (k : Allowed) (s : List ℕ) where
       unfolding escape_of escape_by
       nul e a = rw (le-ltb _ _ h, none, eq-eqb _ _ e, a)
 
-      pub nul_barred : get_or s 1 0 ≡ 48 → allow_nul k ≡ false → bad 35 (between 0 2) ≡ escape_of k s
-      unfolding escape_of escape_by
-      nul_barred e a = rw (le-ltb _ _ h, none, eq-eqb _ _ e, a)
-
       module _ (e : get_or s 1 0 ≡ 48 → ⊥) where
         pub is_x : get_or s 1 0 ≡ 120 → x_escape k s ≡ escape_of k s
         unfolding escape_of escape_by
         is_x x = rw (le-ltb _ _ h, none, ne_eqb _ _ e, eq-eqb _ _ x)
 
-        module _ (x : get_or s 1 0 ≡ 120 → ⊥) where
-          pub is_u : get_or s 1 0 ≡ 117 → u_escape k s ≡ escape_of k s
-          unfolding escape_of escape_by
-          is_u u = rw (le-ltb _ _ h, none, ne_eqb _ _ e, ne_eqb _ _ x, eq-eqb _ _ u)
-
-          pub unknown : (get_or s 1 0 ≡ 117 → ⊥) → bad 8 (between 0 2) ≡ escape_of k s
-          unfolding escape_of escape_by
-          unknown u = rw (le-ltb _ _ h, none, ne_eqb _ _ e, ne_eqb _ _ x, ne_eqb _ _ u)
+        pub is_u : (get_or s 1 0 ≡ 120 → ⊥) → get_or s 1 0 ≡ 117 → u_escape k s ≡ escape_of k s
+        unfolding escape_of escape_by
+        is_u x u = rw (le-ltb _ _ h, none, ne_eqb _ _ e, ne_eqb _ _ x, eq-eqb _ _ u)

@@ -11,31 +11,26 @@ use borrow.Author.Tests.{lt-ltb, le-ltb, eq-eqb, ne_eqb}
 use lib.Dec.{ltb}
 use lib.ListN.{length, get_or, drop, drop_of_length-le}
 use lib.Seq.{drop-cons}
+use Rattle.std.specs.Prelude.{Option, Some, None}
 use Rattle.scan.proofs.Cases.{cond_eq, cond_lt}
 use Rattle.parse.specs.Class.{class_of}
 use Rattle.parse.specs.Sets.{hex_digit_of}
-use Rattle.parse.specs.declared.HexDigit.{HexDigit}
-use Rattle.parse.specs.declared.HexDigit.TheVariants.{Value, NotHex}
 use Rattle.parse.proofs.Classes.{hex_class}
 use Rattle.escape.specs.Escape.{Hex, number, fault, hex_from}
 
 -- ---- what `hex_digit_value` says of a byte's class
 
-pub is_hex : (b v : ℕ) → hex_digit_of b ≡ Value v → (class_of b ≡ v) × (ltb (class_of b) 16 ≡ true)
+pub is_hex : (b v : ℕ) → hex_digit_of b ≡ Some v → (class_of b ≡ v) × (ltb (class_of b) 16 ≡ true)
 is_hex b v e = let h = hex_class b v e in (sym h.0, lt-ltb (class_of b) 16 (omega (arith, h.0, h.1)))
 
-pub hex_value : (b : ℕ) → class_of b < 16 → hex_digit_of b ≡ Value (class_of b)
+pub hex_value : (b : ℕ) → class_of b < 16 → hex_digit_of b ≡ Some (class_of b)
 unfolding hex_digit_of
 hex_value b h = rw (lt-ltb (class_of b) 16 h)
 
-pub no_value : (b : ℕ) → 16 ≤ class_of b → hex_digit_of b ≡ NotHex
-unfolding hex_digit_of
-no_value b h = rw (le-ltb (class_of b) 16 h)
-
-pub not_hex : (b : ℕ) → hex_digit_of b ≡ NotHex → ltb (class_of b) 16 ≡ false
+pub not_hex : (b : ℕ) → hex_digit_of b ≡ None → ltb (class_of b) 16 ≡ false
 unfolding hex_digit_of
 not_hex b =
-    cond_lt (λ (h : HexDigit). h ≡ NotHex → ltb (class_of b) 16 ≡ false) (class_of b) 16
+    cond_lt (λ (h : Option ℕ). h ≡ None → ltb (class_of b) 16 ≡ false) (class_of b) 16
     (λ l e. let z : ◌≡◌ {A = ℕ} 0 1 = cc in absurd (omega arith))
     (λ l e. le-ltb (class_of b) 16 l)
 
@@ -57,14 +52,11 @@ module _ (d : List ℕ) (i n v : ℕ) where
   pub at_end : length d ≤ i → hex_from i n v (drop i d) ≡ number v
   at_end h = rw (drop_of_length-le d h)
 
-  pub skip : i < length d → get_or d i 0 ≡ 95 → hex_from i n v (drop i d) ≡ hex_from (i + 1) n v (drop (i + 1) d)
-  skip h e = rw (drop-cons d i 0, eq-eqb _ _ e, add-one i)
-
   module _ (h : i < length d) (e : get_or d i 0 ≡ 95 → ⊥) where
-    pub no_digit : hex_digit_of (get_or d i 0) ≡ NotHex → hex_from i n v (drop i d) ≡ fault 15 i
+    pub no_digit : hex_digit_of (get_or d i 0) ≡ None → hex_from i n v (drop i d) ≡ fault 15 i
     no_digit g = rw (drop-cons d i 0, ne_eqb _ _ e, not_hex _ g)
 
-    module _ (x : ℕ) (is : hex_digit_of (get_or d i 0) ≡ Value x) where
+    module _ (x : ℕ) (is : hex_digit_of (get_or d i 0) ≡ Some x) where
       pub too_many : n ≡ 6 → hex_from i n v (drop i d) ≡ fault 16 i
       too_many s = rw (drop-cons d i 0, ne_eqb _ _ e, (is_hex _ _ is).1, eq-eqb _ _ s)
 

@@ -1,6 +1,6 @@
 -- What litrs's `unescape` (escape.rs) returns for the escape at the front of a byte list, in its order of tests.
 -- Assumes nothing.
-use Rattle.std.specs.Prelude.{ℕ, ◌+◌, ◌*◌, Bool, true, cond, not, ◌&&◌, ◌||◌, List, [], ◌∷◌, eqb, ltb, leb, length, get_or, take, drop}
+use Rattle.std.specs.Prelude.{ℕ, ◌+◌, ◌*◌, Bool, true, cond, not, ◌&&◌, ◌||◌, List, [], ◌∷◌, eqb, ltb, leb, length, get_or, take, drop, Option, Some, None, Result, Ok, Err}
 use Rattle.err.specs.Outcome.{Place, between}
 use Rattle.err.specs.Numbers.{number_of}
 use Rattle.err.specs.Reading.{place_of}
@@ -13,8 +13,7 @@ use Rattle.escape.specs.Allows.{unicode, byte_escapes, allow_nul}
 use Rattle.escape.specs.declared.Allowed.{Allowed}
 use Rattle.escape.specs.declared.Unescaped.{Unescaped}
 use Rattle.escape.specs.declared.Unescaped.TheVariants.{Nothing, Byte, Unicode}
-use Rattle.escape.specs.declared.Escape.{Escape}
-use Rattle.escape.specs.declared.Escape.TheVariants as escape
+use Rattle.err.specs.declared.ParseError.{ParseError}
 
 -- ---- what an escape stands for
 
@@ -36,9 +35,9 @@ pub data Escaped : Type 0 where
   bad : ℕ → Place → Escaped
 
 -- 01's number and span for each case of the result
-abbrev pub escaped_of : Escape → Escaped
-escaped_of (escape.Value u n) = value u n
-escaped_of (escape.Bad k s) = bad (number_of k) (place_of s)
+abbrev pub escaped_of : Result (Unescaped × ℕ) ParseError → Escaped
+escaped_of (Ok (u, n)) = value u n
+escaped_of (Err e) = bad (number_of e.kind) (place_of e.span)
 
 -- ---- one letter
 
@@ -52,6 +51,10 @@ simple_escape_of b =
     (cond (eqb b 114) 13
     (cond (eqb b 116) 9
     (cond (eqb b 92) 92 0)))))
+
+-- the same, with no value in place of 0
+abbrev pub letter_value : ℕ → Option ℕ
+letter_value b = cond (eqb (simple_escape_of b) 0) None (Some (simple_escape_of b))
 
 -- ---- `\x`
 

@@ -2,13 +2,15 @@
 #![tactic(auto)]
 
 ghost use Rattle.std.specs.Prelude.{◌≡◌, not, ◌&&◌, ◌+◌, ◌≤◌, ◌<◌, length};
+ghost use Rattle.err.specs.Numbers.{number_of};
+ghost use Rattle.err.specs.Outcome.{refused, between};
+ghost use Rattle.err.specs.Reading.{refusal_of};
 ghost use Rattle.buffer.specs.Buffer.{Wrote};
 ghost use Rattle.escape.specs.Allows.{unicode, byte_escapes, allow_nul};
-ghost use Rattle.escape.specs.Escape.{bytes_of, Valid, escaped_of, simple_escape_of, x_byte, x_escape, hex_from, is_scalar, u_scalar, u_hex, bad_start, u_inner, u_escape, escape_of};
+ghost use Rattle.escape.specs.Escape.{bytes_of, Valid, escaped_of, letter_value, x_byte, x_escape, hex_from, is_scalar, u_scalar, u_hex, bad_start, u_inner, u_escape, escape_of};
 
-use err::{ParseErrorKind, Span};
-use parse::HexDigit;
-use scan::ByteSet;
+use err::{ParseError, ParseErrorKind};
+use scan::Except;
 
 // What a kind of literal allows: as text (chars and strings), as bytes, as a C string.
 #[derive(Clone, Copy)]
@@ -53,7 +55,7 @@ impl Allowed {
     }
 }
 
-// What an escape or a byte of a body stands for. A dropped line break stands for nothing.
+// What an escape or a byte of a body stands for. A dropped line break stands for nothing, which is a value as the others are: it has a length of its own.
 #[derive(Clone, Copy)]
 pub enum Unescaped {
     Nothing,
@@ -62,52 +64,50 @@ pub enum Unescaped {
 }
 
 // The value of an escape and how many bytes the escape has, or the refusal, with its span from the escape's first byte.
-#[derive(Clone, Copy)]
-pub enum Escape {
-    Value(Unescaped, usize),
-    Bad(ParseErrorKind, Span),
-}
+pub type Escape = Result<(Unescaped, usize), ParseError>;
 
 // A refusal of the first bytes, up to an end.
-fn bad(kind: ParseErrorKind, end: usize) -> Escape
-    ensures { result ≡ Escape.Bad kind (Span.Between 0 end) }
+fn bad(kind: ParseErrorKind, end: usize) -> ParseError
+    ensures { refusal_of result ≡ refused (number_of kind) (between 0 end) }
 {
-    Escape::Bad(kind, Span::Between(0, end))
+    err::perr(kind, 0, end)
 }
 
 // Whether something is there that is not allowed.
 pub fn bars(allowed: bool, there: bool) -> bool
     ensures { result ≡ (not allowed && there) }
 {
-    if allowed { false } else { there }
+    !allowed && there
 }
 
-// The value of an escape of one letter other than `0`, or 0.
-pub fn simple_escape(b: u8) -> u8
-    ensures { result ≡ simple_escape_of b }
+// The value of an escape of one letter other than `0`.
+#[tactic(auto, unfolding(crate::specs::Escape::simple_escape_of))]
+pub fn simple_escape(b: u8) -> Option<u8>
+    ensures { result ≡ letter_value b }
 {
     match b {
-        b'\'' => b'\'',
-        b'"' => b'"',
-        b'n' => b'\n',
-        b'r' => b'\r',
-        b't' => b'\t',
-        b'\\' => b'\\',
-        _ => 0,
+        b'\'' => Some(b'\''),
+        b'"' => Some(b'"'),
+        b'n' => Some(b'\n'),
+        b'r' => Some(b'\r'),
+        b't' => Some(b'\t'),
+        b'\\' => Some(b'\\'),
+        _ => None,
     }
 }
 
 // What a `\x` escape with this number stands for, or why the kind refuses it.
+#[tactic(auto, using(crate::proofs::Escapes::refused_is_bad), unfolding(crate::specs::Escape::x_byte))]
 fn x_byte(v: u8, k: Allowed) -> Escape
     ensures { escaped_of result ≡ x_byte k v }
 {
     if bars(k.byte_escapes(), 127 < v) {
-        return bad(ParseErrorKind::NonAsciiXEscape, 4);
+        return Err(bad(ParseErrorKind::NonAsciiXEscape, 4));
     }
     if bars(k.allow_nul(), v == 0) {
-        return bad(ParseErrorKind::DisallowedNulEscape, 4);
+        return Err(bad(ParseErrorKind::DisallowedNulEscape, 4));
     }
-    Escape::Value(Unescaped::Byte(v), 4)
+    Ok((Unescaped::Byte(v), 4))
 }
 
 // The arm for `\x` of litrs's `unescape`.
@@ -115,51 +115,45 @@ fn x_escape(s: &[u8], k: Allowed) -> Escape
     ensures { escaped_of result ≡ x_escape k s.now }
 {
     if !utf8::is_boundary(s, 4) {
-        return bad(ParseErrorKind::UnterminatedEscape, s.len());
+        return Err(bad(ParseErrorKind::UnterminatedEscape, s.len()));
     }
-    let first = parse::hex_digit_value(scan::byte_at(s, 2));
-    let HexDigit::Value(a) = first else {
-        return bad(ParseErrorKind::InvalidXEscape, 4);
+    let Some(a) = parse::hex_digit_value(scan::byte_at(s, 2)) else {
+        return Err(bad(ParseErrorKind::InvalidXEscape, 4));
     };
-    let second = parse::hex_digit_value(scan::byte_at(s, 3));
-    let HexDigit::Value(b) = second else {
-        return bad(ParseErrorKind::InvalidXEscape, 4);
+    let Some(b) = parse::hex_digit_value(scan::byte_at(s, 3)) else {
+        return Err(bad(ParseErrorKind::InvalidXEscape, 4));
     };
     x_byte(b + 16 * a, k)
 }
 
 // Whether a number is a Unicode scalar value.
+#[tactic(auto, unfolding(crate::specs::Escape::is_scalar))]
 pub fn is_scalar(v: u32) -> bool
     ensures { result ≡ is_scalar v }
 {
-    if v < 0xD800 {
-        return true;
-    }
-    if v < 0xE000 {
-        return false;
-    }
-    v < 0x110000
+    v < 0xD800 || (0xE000 <= v && v < 0x110000)
 }
 
 // A refusal of the byte at an offset between the braces.
-fn bad_digit(kind: ParseErrorKind, i: usize) -> Escape
+fn bad_digit(kind: ParseErrorKind, i: usize) -> ParseError
     requires { i + 4 < 18446744073709551616 }
-    ensures { result ≡ Escape.Bad kind (Span.Between (i + 3) (i + 4)) }
+    ensures { refusal_of result ≡ refused (number_of kind) (between (i + 3) (i + 4)) }
 {
-    Escape::Bad(kind, Span::Between(i + 3, i + 4))
+    err::perr(kind, i + 3, i + 4)
 }
 
 // An escape of n bytes whose digits are worth v.
+#[tactic(auto, using(crate::proofs::Escapes::refused_is_bad), unfolding(crate::specs::Escape::u_scalar))]
 fn u_scalar(v: u32, n: usize, k: Allowed) -> Escape
     ensures { escaped_of result ≡ u_scalar k n v }
 {
     if bars(k.allow_nul(), v == 0) {
-        return bad(ParseErrorKind::DisallowedNulEscape, n);
+        return Err(bad(ParseErrorKind::DisallowedNulEscape, n));
     }
     if is_scalar(v) {
-        return Escape::Value(Unescaped::Unicode(v), n);
+        return Ok((Unescaped::Unicode(v), n));
     }
-    bad(ParseErrorKind::InvalidUnicodeEscapeChar, n)
+    Err(bad(ParseErrorKind::InvalidUnicodeEscapeChar, n))
 }
 
 // The hex digits between the braces, with `_` among them.
@@ -169,91 +163,80 @@ fn u_digits(d: &[u8], k: Allowed) -> Escape
 {
     let mut v: u32 = 0;
     let mut n: u32 = 0;
-    let mut i = 0;
-    while i < d.len() {
-        let b = d[i];
-        if b == b'_' {
-            i += 1;
+    for (i, b) in d.iter().enumerate() {
+        if *b == b'_' {
             continue;
         }
-        let digit = parse::hex_digit_value(b);
-        let HexDigit::Value(x) = digit else {
-            return bad_digit(ParseErrorKind::NonHexDigitInUnicodeEscape, i);
+        let Some(x) = parse::hex_digit_value(*b) else {
+            return Err(bad_digit(ParseErrorKind::NonHexDigitInUnicodeEscape, i));
         };
         if n == 6 {
-            return bad_digit(ParseErrorKind::TooManyDigitInUnicodeEscape, i);
+            return Err(bad_digit(ParseErrorKind::TooManyDigitInUnicodeEscape, i));
         }
-        v = 16 * v + x as u32;
+        v = 16 * v + u32::from(x);
         n += 1;
-        i += 1;
     }
     u_scalar(v, d.len() + 4, k)
 }
 
 // Whether there is no first byte, or it is `_`.
+#[tactic(auto, unfolding(crate::specs::Escape::bad_start))]
 fn bad_start(d: &[u8]) -> bool
     ensures { result ≡ bad_start d.now }
 {
-    if d.len() == 0 {
-        return true;
-    }
-    d[0] == b'_'
+    matches!(d.first(), None | Some(b'_'))
 }
 
 // What stands between the braces.
+#[tactic(auto, using(crate::proofs::Escapes::refused_is_bad), unfolding(crate::specs::Escape::u_inner))]
 fn u_inner(d: &[u8], k: Allowed) -> Escape
     requires { length d.now + 4 < 18446744073709551616 }
     ensures { escaped_of result ≡ u_inner k d.now }
 {
     if bad_start(d) {
-        return bad_digit(ParseErrorKind::InvalidStartOfUnicodeEscape, 0);
+        return Err(bad_digit(ParseErrorKind::InvalidStartOfUnicodeEscape, 0));
     }
     u_digits(d, k)
 }
 
 // The arm for `\u` of litrs's `unescape`.
+#[tactic(auto, using(crate::proofs::Escapes::refused_is_bad, crate::proofs::Escapes::brace_there), unfolding(crate::specs::Escape::u_escape, crate::specs::Escape::u_braced))]
 fn u_escape(s: &[u8], k: Allowed) -> Escape
     ensures { escaped_of result ≡ u_escape k s.now }
 {
     if !k.unicode() {
-        return bad(ParseErrorKind::UnicodeEscapeInByteLiteral, 2);
+        return Err(bad(ParseErrorKind::UnicodeEscapeInByteLiteral, 2));
     }
     if scan::byte_at(s, 2) != b'{' {
-        return bad(ParseErrorKind::UnicodeEscapeWithoutBrace, 2);
+        return Err(bad(ParseErrorKind::UnicodeEscapeWithoutBrace, 2));
     }
-    let n = scan::run_len(&s[3..], ByteSet::Except(b'}'));
+    let n = scan::run_len(&s[3..], Except(b'}'));
     let closing = n + 3;
     if closing == s.len() {
-        return bad(ParseErrorKind::UnterminatedUnicodeEscape, s.len());
+        return Err(bad(ParseErrorKind::UnterminatedUnicodeEscape, s.len()));
     }
     u_inner(&s[3..closing], k)
 }
 
 // The escape at the front. Its first byte is a backslash, and is not looked at.
+#[tactic(auto, using(crate::proofs::Escapes::refused_is_bad), unfolding(crate::specs::Escape::escape_of, crate::specs::Escape::escape_by))]
 pub fn unescape(s: &[u8], k: Allowed) -> Escape
     ensures { escaped_of result ≡ escape_of k s.now }
 {
     if s.len() < 2 {
-        return bad(ParseErrorKind::UnterminatedEscape, 1);
+        return Err(bad(ParseErrorKind::UnterminatedEscape, 1));
     }
     let b = s[1];
-    let l = simple_escape(b);
-    if l != 0 {
-        return Escape::Value(Unescaped::Byte(l), 2);
+    if let Some(value) = simple_escape(b) {
+        return Ok((Unescaped::Byte(value), 2));
     }
-    if b == b'0' {
-        if k.allow_nul() {
-            return Escape::Value(Unescaped::Byte(0), 2);
-        }
-        return bad(ParseErrorKind::DisallowedNulEscape, 2);
+    match b {
+        b'0' if k.allow_nul() => Ok((Unescaped::Byte(0), 2)),
+        b'0' => Err(bad(ParseErrorKind::DisallowedNulEscape, 2)),
+        b'x' => x_escape(s, k),
+        b'u' => u_escape(s, k),
+        _ => Err(bad(ParseErrorKind::UnknownEscape, 2)),
     }
-    if b == b'x' {
-        return x_escape(s, k);
-    }
-    if b == b'u' {
-        return u_escape(s, k);
-    }
-    bad(ParseErrorKind::UnknownEscape, 2)
 }
 
 // How many bytes a value has in a string.
@@ -274,7 +257,7 @@ pub fn put_value(out: &mut [u8], u: Unescaped) -> usize
 {
     match u {
         Unescaped::Nothing => 0,
-        Unescaped::Byte(b) => buffer::put_one(out, b),
+        Unescaped::Byte(b) => buffer::put_bytes(out, &[b]),
         Unescaped::Unicode(c) => utf8::encode_char(out, c),
     }
 }

@@ -12,6 +12,7 @@ use escape::{Allowed, Unescaped};
 const LEN_UNIT: u64 = 4294967296;
 
 // A dropped line break of n bytes, which stands for nothing, as one number.
+#[tactic(auto, unfolding(crate::specs::Packed::packed_piece))]
 pub fn packed_nothing(n: usize) -> u64
     requires { n < 4294967296 }
     ensures { result ≡ packed_piece n Unescaped.Nothing }
@@ -20,47 +21,39 @@ pub fn packed_nothing(n: usize) -> u64
 }
 
 // A byte that n bytes stand for, as one number.
+#[tactic(auto, unfolding(crate::specs::Packed::packed_piece))]
 fn packed_byte(n: u64, b: u8) -> u64
     requires { n ≤ 4 }
     ensures { result ≡ packed_piece n (Unescaped.Byte b) }
 {
-    n * LEN_UNIT + 1 + b as u64
+    n * LEN_UNIT + 1 + u64::from(b)
 }
 
 // An escape by `x` as one number, or 0 where it is refused.
 fn packed_x(s: &[u8], k: Allowed) -> u64
     ensures { result ≡ packed_escape (x_escape k s.now) }
 {
-    if s.len() < 4 {
+    if s.len() < 4 || !utf8::is_boundary(s, 4) {
         return 0;
     }
-    let whole = utf8::is_boundary(s, 4);
-    if !whole {
+    let Some(a) = parse::hex_digit_value(s[2]) else {
         return 0;
-    }
-    let a = parse::class_of(s[2]);
-    if 15 < a {
+    };
+    let Some(b) = parse::hex_digit_value(s[3]) else {
         return 0;
-    }
-    let b = parse::class_of(s[3]);
-    if 15 < b {
-        return 0;
-    }
+    };
     let v = b + 16 * a;
-    if 127 < v {
-        if !k.byte_escapes() {
-            return 0;
-        }
+    if escape::bars(k.byte_escapes(), 127 < v) {
+        return 0;
     }
-    if v == 0 {
-        if !k.allow_nul() {
-            return 0;
-        }
+    if escape::bars(k.allow_nul(), v == 0) {
+        return 0;
     }
     packed_byte(4, v)
 }
 
 // An escape of n bytes whose digits are worth v, as one number.
+#[tactic(auto, unfolding(escape::specs::Escape::u_scalar, crate::specs::Packed::packed_piece))]
 fn packed_scalar(v: u32, n: usize, k: Allowed) -> u64
     requires { n < 4294967296 }
     ensures { result ≡ packed_escape (u_scalar k n v) }
@@ -71,7 +64,7 @@ fn packed_scalar(v: u32, n: usize, k: Allowed) -> u64
     if !escape::is_scalar(v) {
         return 0;
     }
-    n as u64 * LEN_UNIT + 257 + v as u64
+    n as u64 * LEN_UNIT + 257 + u64::from(v)
 }
 
 // An escape by `u` as one number, or 0 where it is refused.
@@ -85,28 +78,26 @@ fn packed_u(s: &[u8], k: Allowed) -> u64
     if scan::byte_at(s, 2) != b'{' {
         return 0;
     }
+    let digits = &s[3..];
     let mut v: u32 = 0;
     let mut n: u32 = 0;
-    let mut i = 3;
-    while i < s.len() {
-        let b = s[i];
-        i += 1;
-        let d = parse::class_of(b);
+    for (i, b) in digits.iter().enumerate() {
+        let d = parse::class_of(*b);
         if d < 16 {
             if n == 6 {
                 return 0;
             }
-            v = 16 * v + d as u32;
+            v = 16 * v + u32::from(d);
             n += 1;
             continue;
         }
-        if i == 4 {
+        if i == 0 {
             return 0;
         }
-        if b == b'}' {
-            return packed_scalar(v, i, k);
+        if *b == b'}' {
+            return packed_scalar(v, i + 4, k);
         }
-        if b != b'_' {
+        if *b != b'_' {
             return 0;
         }
     }
@@ -114,6 +105,7 @@ fn packed_u(s: &[u8], k: Allowed) -> u64
 }
 
 // The escape at the front as one number, or 0 where it is refused.
+#[tactic(auto, unfolding(escape::specs::Escape::escape_of, escape::specs::Escape::escape_by))]
 pub fn packed(s: &[u8], k: Allowed) -> u64
     requires { length s.now < 4294967296 }
     ensures { result ≡ packed_escape (escape_of k s.now) }
@@ -122,25 +114,19 @@ pub fn packed(s: &[u8], k: Allowed) -> u64
         return 0;
     }
     let b = s[1];
-    let l = escape::simple_escape(b);
-    if l != 0 {
-        return packed_byte(2, l);
+    if let Some(value) = escape::simple_escape(b) {
+        return packed_byte(2, value);
     }
-    if b == b'x' {
-        return packed_x(s, k);
+    match b {
+        b'x' => packed_x(s, k),
+        b'u' => packed_u(s, k),
+        b'0' if k.allow_nul() => packed_byte(2, 0),
+        _ => 0,
     }
-    if b == b'u' {
-        return packed_u(s, k);
-    }
-    if b == b'0' {
-        if k.allow_nul() {
-            return packed_byte(2, 0);
-        }
-    }
-    0
 }
 
 // How many bytes a packed piece has.
+#[tactic(auto, unfolding(crate::specs::Packed::packed_len))]
 pub fn packed_len(c: u64) -> usize
     ensures { result ≡ packed_len c }
 {
@@ -148,15 +134,14 @@ pub fn packed_len(c: u64) -> usize
 }
 
 // What a packed piece stands for.
+#[tactic(auto, unfolding(crate::specs::Packed::packed_value, crate::specs::Packed::unescaped_by))]
 pub fn packed_value(c: u64) -> Unescaped
     ensures { result ≡ packed_value c }
 {
     let v = (c % LEN_UNIT) as u32;
-    if v == 0 {
-        return Unescaped::Nothing;
+    match v {
+        0 => Unescaped::Nothing,
+        1..257 => Unescaped::Byte((v - 1) as u8),
+        _ => Unescaped::Unicode(v - 257),
     }
-    if v < 257 {
-        return Unescaped::Byte((v - 1) as u8);
-    }
-    Unescaped::Unicode(v - 257)
 }

@@ -1,15 +1,15 @@
 -- What litrs's `FloatLit::parse` returns (01, Floats), in its order of tests.
 -- Assumes nothing.
-use Rattle.std.specs.Prelude.{ℕ, ◌+◌, ◌-◌, Bool, cond, ◌&&◌, ◌||◌, List, [], ◌∷◌, eqb, ltb, length, get_or, take, drop}
+use Rattle.std.specs.Prelude.{ℕ, ◌+◌, ◌-◌, Bool, cond, ◌&&◌, ◌||◌, List, [], ◌∷◌, eqb, ltb, length, get_or, take, drop, Result, Ok, Err}
 use Rattle.err.specs.Outcome.{Outcome, refused, accepted, none, between, ends}
-use Rattle.err.specs.Reading.{outcome_of}
-use Rattle.err.specs.declared.Reading.TheVariants as reading
+use Rattle.err.specs.Reading.{outcome_of, refusal_of}
+use Rattle.err.specs.declared.FloatLit.{FloatLit}
+use Rattle.err.specs.declared.Literal.TheVariants as literal
+use Rattle.err.specs.declared.ParseError.{ParseError}
 use Rattle.scan.specs.Run.{run}
 use Rattle.scan.specs.Sets.{only}
 use Rattle.parse.specs.Sets.{digit, dec_digit, starts_e}
 use Rattle.suffix.specs.Suffix.{suffix_fault}
-use Rattle.float.specs.declared.Parsed.{Parsed}
-use Rattle.float.specs.declared.Parsed.TheVariants as parsed
 
 -- where digits and `_` from an offset on end
 abbrev pub digits_end : List ℕ → ℕ → ℕ
@@ -74,11 +74,6 @@ float_read [] = refused 1 none
 float_read (b ∷ s) = cond (dec_digit b) (after_integer (b ∷ s) (run (digit 10) (b ∷ s))) (refused 4 (between 0 1))
 
 -- document 01's numbers and values for each case
-abbrev pub parsed_of : Parsed → Outcome
-parsed_of (parsed.Lit l) = outcome_of (reading.Float l)
-parsed_of (parsed.Refused k p) = outcome_of (reading.Refused k p)
-
--- whether an answer is a refusal; serves a contract between functions
-abbrev pub IsRefused : Parsed → Type 0
-IsRefused (parsed.Lit l) = ⊥
-IsRefused (parsed.Refused k p) = Unit {0}
+abbrev pub parsed_of : Result FloatLit ParseError → Outcome
+parsed_of (Ok l) = outcome_of (Ok (literal.Float l))
+parsed_of (Err e) = refusal_of e

@@ -1,70 +1,59 @@
 // Float literals: integer part, fraction, exponent and suffix.
 #![tactic(auto)]
 
-ghost use Rattle.std.specs.Prelude.{◌≡◌, ◌≤◌, ◌<◌, length};
-ghost use Rattle.err.specs.Reading.{outcome_of};
-ghost use Rattle.err.specs.Counts.{no_counts, counts_of, kept_counts};
+ghost use Rattle.std.specs.Prelude.{◌≡◌, ◌≤◌, ◌<◌, length, Ok};
+ghost use Rattle.err.specs.Counts.{kept_counts};
 ghost use Rattle.digits.specs.Counts.{digit_counts};
-ghost use Rattle.float.specs.Float.{parsed_of, IsRefused, not_integer, bad_fraction, sign_end, fraction_end, exponent_end, after_number, after_integer, float_read};
+ghost use Rattle.float.specs.Float.{parsed_of, not_integer, bad_fraction, sign_end, fraction_end, exponent_end, after_number, after_integer, float_read};
 ghost use Rattle.float.specs.Counts.{parsed_counts, PartScan};
 
-use err::{Checked, FloatLit, ParseErrorKind, Reading, Span};
+use err::{FloatLit, ParseError, ParseErrorKind};
 use parse::DigitRun;
-use scan::Byte;
-
-// A float literal, or why a text is none.
-#[derive(Clone, Copy)]
-pub enum Parsed {
-    Lit(FloatLit),
-    Refused(ParseErrorKind, Span),
-}
 
 // A literal with neither fraction nor exponent is an integer's.
-fn not_integer(lit: FloatLit) -> Parsed
+#[tactic(auto, unfolding(crate::specs::Float::not_integer))]
+fn not_integer(lit: FloatLit) -> Result<FloatLit, ParseError>
     ensures outcome { parsed_of result ≡ not_integer lit.end_integer_part lit.end_fractional_part lit.end_number_part }
-    ensures counts { parsed_counts result ≡ kept_counts (counts_of (Reading.Float lit)) (parsed_of result) }
+    ensures counts { parsed_counts result ≡ kept_counts (parsed_counts (Ok lit)) (parsed_of result) }
 {
     if lit.end_integer_part == lit.end_number_part {
-        return Parsed::Refused(ParseErrorKind::UnexpectedIntegerLit, Span::Nowhere);
+        return Err(err::perr_nowhere(ParseErrorKind::UnexpectedIntegerLit));
     }
-    Parsed::Lit(lit)
+    Ok(lit)
 }
 
 // After the number: the suffix.
-fn after_number(text: &[u8], lit: FloatLit) -> Parsed
+fn after_number(text: &[u8], lit: FloatLit) -> Result<FloatLit, ParseError>
     requires { lit.end_number_part ≤ length text.now }
     ensures outcome { parsed_of result ≡ after_number text.now lit.end_integer_part lit.end_fractional_part lit.end_number_part }
-    ensures counts { parsed_counts result ≡ kept_counts (counts_of (Reading.Float lit)) (parsed_of result) }
+    ensures counts { parsed_counts result ≡ kept_counts (parsed_counts (Ok lit)) (parsed_of result) }
 {
     let end = lit.end_number_part;
     // most literals have no suffix
     if end == text.len() {
         return not_integer(lit);
     }
-    let checked = suffix::check_suffix(&text[end..]);
-    let Checked::Bad(kind) = checked else {
+    let Err(kind) = suffix::check_suffix(&text[end..]) else {
         return not_integer(lit);
     };
-    Parsed::Refused(kind, Span::Between(end, text.len()))
+    Err(err::perr(kind, end, text.len()))
 }
 
 // Where the exponent's digits start: after `e` and its sign, if it has one.
+#[tactic(auto, unfolding(crate::specs::Float::sign_end))]
 fn sign_end(text: &[u8], at: usize) -> usize
     requires { at < length text.now }
     ensures { (result ≡ sign_end text.now at) × (result ≤ length text.now) }
 {
     let next = at + 1;
-    let sign = scan::byte_at(text, next);
-    if sign == b'-' {
-        return next + 1;
+    match text.get(next) {
+        Some(b'-' | b'+') => next + 1,
+        _ => next,
     }
-    if sign == b'+' {
-        return next + 1;
-    }
-    next
 }
 
 // Whether what stands after the period may not: `_`, or, where no digit follows, anything.
+#[tactic(auto, unfolding(crate::specs::Float::bad_fraction))]
 fn bad_fraction(text: &[u8], from: usize, end: usize) -> bool
     ensures { result ≡ bad_fraction text.now from end }
 {
@@ -110,7 +99,7 @@ fn exponent_end(text: &[u8], f: usize) -> DigitRun
 }
 
 // After the integer part: fraction, exponent and suffix.
-fn after_integer(text: &[u8], whole: DigitRun) -> Parsed
+fn after_integer(text: &[u8], whole: DigitRun) -> Result<FloatLit, ParseError>
     requires { PartScan 0 whole.end text.now whole }
     ensures outcome { parsed_of result ≡ after_integer text.now whole.end }
     ensures counts { parsed_counts result ≡ digit_counts text.now (parsed_of result) }
@@ -121,17 +110,14 @@ fn after_integer(text: &[u8], whole: DigitRun) -> Parsed
     if i < f {
         let from = i + 1;
         if bad_fraction(text, from, f) {
-            return Parsed::Refused(
-                ParseErrorKind::UnexpectedChar,
-                Span::Between(from, from + 1),
-            );
+            return Err(err::perr(ParseErrorKind::UnexpectedChar, from, from + 1));
         }
     }
     let exponent = exponent_end(text, f);
     let end = exponent.end;
     if f < end {
         if exponent.digits == 0 {
-            return Parsed::Refused(ParseErrorKind::NoExponentDigits, Span::Between(f, end));
+            return Err(err::perr(ParseErrorKind::NoExponentDigits, f, end));
         }
     }
     after_number(
@@ -147,41 +133,14 @@ fn after_integer(text: &[u8], whole: DigitRun) -> Parsed
     )
 }
 
-// The float literal that a text is, or why it is none.
-fn parse_lit(text: &[u8]) -> Parsed
-    ensures outcome { parsed_of result ≡ float_read text.now }
-    ensures counts { parsed_counts result ≡ digit_counts text.now (parsed_of result) }
-{
-    let first = scan::get(text, 0);
-    let Byte::At(b) = first else {
-        return Parsed::Refused(ParseErrorKind::Empty, Span::Nowhere);
-    };
-    if parse::is_decimal(b) {
-        return after_integer(text, digits::end_dec_digits(text));
-    }
-    Parsed::Refused(ParseErrorKind::DoesNotStartWithDigit, Span::Between(0, 1))
-}
-
-// The refusal as a reading.
-fn refusal(parsed: Parsed) -> Reading
-    requires { IsRefused parsed }
-    ensures { (outcome_of result ≡ parsed_of parsed) × (counts_of result ≡ no_counts) }
-{
-    match parsed {
-        // ruled out by `requires`
-        Parsed::Lit(_) => err::perr_nowhere(ParseErrorKind::InvalidLiteral),
-        Parsed::Refused(kind, span) => Reading::Refused(kind, span),
-    }
-}
-
 // litrs's `FloatLit::parse`; the digits are counted besides (02, d).
-pub fn parse(text: &[u8]) -> Reading
-    ensures outcome { outcome_of result ≡ float_read text.now }
-    ensures counts { counts_of result ≡ digit_counts text.now (float_read text.now) }
+pub fn parse(text: &[u8]) -> Result<FloatLit, ParseError>
+    ensures outcome { parsed_of result ≡ float_read text.now }
+    ensures counts { parsed_counts result ≡ digit_counts text.now (float_read text.now) }
 {
-    let parsed = parse_lit(text);
-    let Parsed::Lit(lit) = parsed else {
-        return refusal(parsed);
-    };
-    Reading::Float(lit)
+    match text.first() {
+        None => Err(err::perr_nowhere(ParseErrorKind::Empty)),
+        Some(b) if parse::is_decimal(*b) => after_integer(text, digits::end_dec_digits(text)),
+        Some(_) => Err(err::perr(ParseErrorKind::DoesNotStartWithDigit, 0, 1)),
+    }
 }

@@ -11,8 +11,7 @@ use lib.ListN.{length, drop, length-drop}
 use borrow.Author.Tests.{lt-ltb, le-ltb}
 use Rattle.utf8.specs.Utf8.{Utf8, encode}
 use Rattle.utf8.specs.Decode.{decode}
-use Rattle.utf8.specs.declared.Decoded.{Decoded}
-use Rattle.utf8.specs.declared.Decoded.TheVariants.{Char, Bad}
+use Rattle.std.specs.Prelude.{Option, Some, None}
 use Rattle.utf8.proofs.Laws.{is_row1, by_row, encode_length, Found, decode_found}
 use Rattle.utf8.proofs.Text.{utf8_bad, utf8_rest}
 use Rattle.form.specs.Escapes.{ascii_form, char_form, char_forms_within, char_forms}
@@ -59,12 +58,12 @@ module _ (q : ℕ) where
   within (suc k) [] h u = refl
   within (suc k) (a ∷ r) h u = go (decode (a ∷ r)) refl (λ n p w. within k (drop n (a ∷ r)) (omega (arith, length-drop n (a ∷ r))) w)
     where
-      go : (d : Decoded) → decode (a ∷ r) ≡ d
+      go : (d : Option (ℕ × ℕ)) → decode (a ∷ r) ≡ d
           → ((n : ℕ) → 0 < n → Utf8 (drop n (a ∷ r)) → char_forms_within q k (drop n (a ∷ r)) ≡ text_forms q (drop n (a ∷ r)))
-          → elim d [ Char c n ↦ char_form q c ++ char_forms_within q k (drop n (a ∷ r)) | Bad ↦ [] ] ≡ text_forms q (a ∷ r)
-      go Bad e f = absurd (let z = ap length (utf8_bad (a ∷ r) u e) in omega arith)
-      go (Char c n) e f =
-          let g : Found (a ∷ r) (Char c n) = subst (λ (d : Decoded). Found (a ∷ r) d) e (decode_found (a ∷ r)) in
+          → elim d [ Some found ↦ char_form q found.0 ++ char_forms_within q k (drop found.1 (a ∷ r)) | None ↦ [] ] ≡ text_forms q (a ∷ r)
+      go None e f = absurd (let z = ap length (utf8_bad (a ∷ r) u e) in omega arith)
+      go (Some (c, n)) e f =
+          let g : Found (a ∷ r) (Some (c, n)) = subst (λ (d : Option (ℕ × ℕ)). Found (a ∷ r) d) e (decode_found (a ∷ r)) in
           let p = encode_length c in
           let w : Utf8 (drop n (a ∷ r)) = utf8_rest c (drop n (a ∷ r)) g.0 (subst (λ (l : List ℕ). Utf8 l) (sym g.1) u) in
           ap (λ (t : List ℕ). t ++ char_forms_within q k (drop n (a ∷ r))) (char_text c)

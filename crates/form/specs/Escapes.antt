@@ -1,10 +1,9 @@
 -- How characters and bytes are written in a settled form (01, The settled form, Quoted).
 -- Assumes nothing.
-use Rattle.std.specs.Prelude.{cond, ◌&&◌, List, [], ◌∷◌, ◌++◌, ℕ, zero, suc, eqb, ltb, leb, length, drop}
+use Rattle.std.specs.Prelude.{cond, ◌&&◌, List, [], ◌∷◌, ◌++◌, ℕ, zero, suc, eqb, ltb, leb, length, drop, Some, None}
 use Rattle.buffer.specs.Digits.{hex_digits}
 use Rattle.utf8.specs.Utf8.{encode}
 use Rattle.utf8.specs.Decode.{decode}
-use Rattle.utf8.specs.declared.Decoded.TheVariants.{Char, Bad}
 
 -- "Escaped are `\\`, `\n`, `\r`, `\t`, `\0`, and `'` in kinds 4 and 6 or `"` in 5, 7, 8": what stands after the backslash, where the kind's
 -- quote is q; 0 where there is no such escape
@@ -49,7 +48,7 @@ unfoldable pub char_forms_within : ℕ → ℕ → List ℕ → List ℕ
 char_forms_within q zero v = []
 char_forms_within q (suc k) [] = []
 char_forms_within q (suc k) (a ∷ v) =
-    elim (decode (a ∷ v)) [ Char c n ↦ char_form q c ++ char_forms_within q k (drop n (a ∷ v)) | Bad ↦ [] ]
+    elim (decode (a ∷ v)) [ Some found ↦ char_form q found.0 ++ char_forms_within q k (drop found.1 (a ∷ v)) | None ↦ [] ]
 
 -- n bytes hold at most n characters
 unfoldable pub char_forms : ℕ → List ℕ → List ℕ

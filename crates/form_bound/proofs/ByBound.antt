@@ -2,18 +2,19 @@
 -- Assumes nothing.
 use mathlib.Core.Path.{◌≡◌, refl, sym, ap, ◌∙◌}
 use mathlib.Core.Bool.{true, and-eq-true_iff}
+use mathlib.Core.Logic.{◌⊎◌, inl, inr}
 use mathlib.Core.List.{List, []}
 use Prim.Native.Nat.{ℕ, ◌+◌, ◌-◌, ◌*◌, ◌≤◌}
 use native.Mathlib.Omega.{arith}
 use borrow.Author.Tests.{leb-true}
 use lib.Dec.{leb}
 use lib.ListN.{length}
+use Rattle.std.specs.Prelude.{Ok}
 use Rattle.err.specs.Outcome.{Outcome}
-use Rattle.err.specs.Reading.{outcome_of}
+use Rattle.err.specs.Reading.{outcome_of, suffix_in}
 use Rattle.err.specs.declared.StringLit.{StringLit}
-use Rattle.err.specs.declared.Reading.{Reading}
-use Rattle.err.specs.declared.Reading.TheVariants as reading
-use Rattle.numbers.specs.Numbers.{suffix_in}
+use Rattle.err.specs.declared.Literal.{Literal}
+use Rattle.err.specs.declared.Literal.TheVariants as literal
 use Rattle.scan.proofs.Cases.{clash}
 use Rattle.escape.specs.declared.Allowed.{Allowed}
 use Rattle.escape.specs.declared.Allowed.TheVariants.{Text, Bytes, C}
@@ -26,7 +27,7 @@ use Rattle.string.proofs.Literals.{value_length}
 use Rattle.form_string.specs.Strings.{worth_in, opening_of, verbatim_in}
 use Rattle.form_string.proofs.Bare.{read_length, opening_short}
 use Rattle.literal.specs.Readings.{read_at}
-use Rattle.form_reading.proofs.Readings.{utf8, string_in, string_read_lem}
+use Rattle.form_reading.proofs.Readings.{utf8, start, string_in, string_read_lem}
 use Rattle.form_reading.proofs.Lengths.{plain_bare}
 use Rattle.form_reading.specs.Bare.{len, bare_by, bare_form_by}
 use Rattle.form_bound.specs.Bound.{bound_fits, fits_by_bound}
@@ -71,13 +72,19 @@ module _ (s : List ℕ) (room : ℕ) where
         record { form = (string_form k lit).1; short = omega (arith, m.0); fits = omega (arith, m.1) }
 
   -- THE LAW: a string that fits by the bound has a form that fits
-  pub by_bound : (found : Reading) → let o = outcome_of found in o ≡ read_at 0 s → fits_by_bound s o room ≡ true → Bounded s o room
-  by_bound (reading.String lit) is e = bound_fits_lem Text lit is e
-  by_bound (reading.ByteString lit) is e = bound_fits_lem Bytes lit is e
-  by_bound (reading.CString lit) is e = bound_fits_lem C lit is e
-  by_bound (reading.Refused k p) is e = clash e refl
-  by_bound (reading.Bool lit) is e = clash e refl
-  by_bound (reading.Integer lit) is e = clash e refl
-  by_bound (reading.Float lit) is e = clash e refl
-  by_bound (reading.Char lit) is e = clash e refl
-  by_bound (reading.Byte lit) is e = clash e refl
+  pub by_bound : (found : Literal) → let o = outcome_of (Ok found) in o ≡ read_at 0 s → fits_by_bound s o room ≡ true → Bounded s o room
+  by_bound (literal.String lit) is e = bound_fits_lem Text lit is e
+  by_bound (literal.ByteString lit) is e = bound_fits_lem Bytes lit is e
+  by_bound (literal.CString lit) is e = bound_fits_lem C lit is e
+  by_bound (literal.Bool lit) is e = clash e refl
+  by_bound (literal.Integer lit) is e = clash e refl
+  by_bound (literal.Float lit) is e = clash e refl
+  by_bound (literal.Char lit) is e = clash e refl
+  by_bound (literal.Byte lit) is e = clash e refl
+
+-- the suffix of a string of any of the three kinds starts inside the text
+pub string_inside : (s : List ℕ) (l : Literal) (x : StringLit) → outcome_of (Ok l) ≡ read_at 0 s
+    → (l ≡ literal.String x) ⊎ ((l ≡ literal.ByteString x) ⊎ (l ≡ literal.CString x)) → x.start_suffix ≤ length s
+string_inside s l x is (inl e) = start s (rw e at is)
+string_inside s l x is (inr (inl e)) = start s (rw e at is)
+string_inside s l x is (inr (inr e)) = start s (rw e at is)

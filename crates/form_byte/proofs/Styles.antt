@@ -1,15 +1,16 @@
 -- The forms of a style: by the tests of the code, one after another, how long they are, and that they are those of crate form.
 -- Assumes nothing.
 use mathlib.Core.Path.{◌≡◌, refl, sym, ap, ◌∙◌}
-use mathlib.Core.Bool.{Bool, true, false, ◌&&◌}
+use mathlib.Core.Bool.{Bool, true, false, ◌&&◌, and-false}
+use mathlib.Core.Logic.{◌⊎◌, inl, inr}
 use mathlib.Core.List.{List, [], ◌∷◌, ◌++◌, append_assoc, append-nil}
 use Prim.Native.Nat.{ℕ, ◌+◌, ◌-◌, ◌*◌, ◌≤◌, ◌<◌}
 use native.Mathlib.Omega.{arith}
 use native.Mathlib.Numerals.{add-one}
 use lib.Dec.{ltb, leb, eqb}
-use lib.ListN.{length, take, drop, get_or, length-append, length-drop, take-append-drop, drop_of_length-le}
-use lib.Seq.{take-suc, take-add, drop-cons, length-take-le}
-use borrow.Author.Tests.{lt-ltb, le-ltb, le-leb, ne_eqb}
+use lib.ListN.{length, take, drop, get_or, length-append, take-append-drop, drop_of_length-le}
+use lib.Seq.{take-suc, take-add, drop-cons}
+use borrow.Author.Tests.{lt-ltb, le-ltb, le-leb, lt-leb, ne_eqb}
 use Rattle.buffer.specs.Digits.{hex_digits}
 use Rattle.scan.specs.Run.{run, All}
 use Rattle.scan.proofs.Cases.{cond_in, cond_lt, cond_eq, clash}
@@ -19,8 +20,8 @@ use Rattle.utf8.proofs.Laws.{is_row1}
 use Rattle.form.specs.Escapes.{escape_letter, x_form, ascii_form, char_form, byte_form, char_forms, byte_forms}
 use Rattle.form.proofs.Fit.{Each}
 use Rattle.form.proofs.ByBytes.{text_forms, high_bytes, by_bytes}
-use Rattle.form_byte.proofs.Sums.{part_sum}
-use Rattle.form_byte.specs.Styled.{high_form, styled_form, styled_forms, extra_of, extras_of, printable, itself}
+use Rattle.form_byte.specs.Styled.{high_form, styled_form, styled_forms, extra_of, extras_of, letter_of, itself}
+use Rattle.std.specs.Prelude.{Option, Some, None}
 
 -- an `\x` escape has four bytes
 pub x_length : (b : ℕ) → length (x_form b) ≡ 4
@@ -34,30 +35,37 @@ module _ (w : Bool) (q : ℕ) where
   unfolding styled_form
   is_high b h = simp (le-ltb b 128 (omega arith))
 
-  pub is_letter : (b l : ℕ) → b ≤ 127 → l ≡ escape_letter q b → (l ≡ 0 → ⊥) → styled_form w q b ≡ 92 ∷ l ∷ []
+  pub is_letter : (b l : ℕ) → b ≤ 127 → letter_of q b ≡ Some l → styled_form w q b ≡ 92 ∷ l ∷ []
+  unfolding styled_form ascii_form letter_of
+  is_letter b l h =
+      cond_eq (λ (o : Option ℕ). o ≡ Some l → styled_form w q b ≡ 92 ∷ l ∷ []) (escape_letter q b) 0
+      (λ z e. absurd cc)
+      (λ n e. let is : escape_letter q b ≡ l = cc in simp (lt-ltb b 128 (omega arith), is, ne_eqb l 0 (λ z. n (is ∙ z))))
+
+  no_letter : (b : ℕ) → letter_of q b ≡ None → escape_letter q b ≡ 0
+  unfolding letter_of
+  no_letter b = cond_eq (λ (o : Option ℕ). o ≡ None → escape_letter q b ≡ 0) (escape_letter q b) 0 (λ z e. z) (λ n e. absurd cc)
+
+  pub is_plain : (b : ℕ) → 32 ≤ b → b < 127 → letter_of q b ≡ None → styled_form w q b ≡ b ∷ []
   unfolding styled_form ascii_form
-  is_letter b l h e n = rw (← e) (simp (lt-ltb b 128 (omega arith), ne_eqb l 0 n))
+  is_plain b lo hi e = simp (lt-ltb b 128 (omega arith), no_letter b e, le-leb 32 b lo, lt-ltb b 127 hi)
 
-  pub is_plain : (b : ℕ) → b ≤ 127 → escape_letter q b ≡ 0 → printable b ≡ true → styled_form w q b ≡ b ∷ []
-  unfolding styled_form ascii_form printable
-  is_plain b h e p = simp (lt-ltb b 128 (omega arith), e, p)
-
-  pub is_x : (b : ℕ) → b ≤ 127 → escape_letter q b ≡ 0 → printable b ≡ false → styled_form w q b ≡ x_form b
-  unfolding styled_form ascii_form printable
-  is_x b h e p = simp (lt-ltb b 128 (omega arith), e, p)
+  pub is_x : (b : ℕ) → b ≤ 127 → ((b < 32) ⊎ (127 ≤ b)) → letter_of q b ≡ None → styled_form w q b ≡ x_form b
+  unfolding styled_form ascii_form
+  is_x b h (inl lo) e = simp (lt-ltb b 128 (omega arith), no_letter b e, lt-leb 32 b lo)
+  is_x b h (inr hi) e = simp (lt-ltb b 128 (omega arith), no_letter b e, le-ltb b 127 hi, and-false)
 
   -- a byte that is its own form
   pub is_itself : (b : ℕ) → itself w q b ≡ true → styled_form w q b ≡ b ∷ []
-  unfolding itself escape_letter printable
+  unfolding itself escape_letter letter_of
   is_itself b =
       let P : Bool → Type 0 = λ t. t ≡ true → styled_form w q b ≡ b ∷ [] in
       cond_lt P b 32 (λ h t. clash t refl)
       (λ h. cond_eq P b 92 (λ e t. clash t refl)
       (λ n. cond_eq P b q (λ e t. clash t refl)
       (λ m. cond_lt P b 127
-      (λ l t. is_plain b (omega arith)
-      (simp (ne_eqb b 92 n, ne_eqb b 10 (λ e. omega arith), ne_eqb b 13 (λ e. omega arith), ne_eqb b 9 (λ e. omega arith), ne_eqb b 0 (λ e. omega arith), ne_eqb b q m))
-      (simp (le-leb 32 b h, lt-ltb b 127 l)))
+      (λ l t. is_plain b h l
+      (simp (ne_eqb b 92 n, ne_eqb b 10 (λ e. omega arith), ne_eqb b 13 (λ e. omega arith), ne_eqb b 9 (λ e. omega arith), ne_eqb b 0 (λ e. omega arith), ne_eqb b q m)))
       (λ l. cond_eq P b 127 (λ e t. clash t refl) (λ o t. is_high b (omega arith) ∙ rw t)))))
 
   -- ---- all of them, one after another
@@ -142,26 +150,20 @@ module _ (w : Bool) (q : ℕ) where
   forms_extras [] = refl
   forms_extras (b ∷ v) = rw length-append (omega (arith, form_some b, forms_extras v))
 
-  -- a sum goes on by one byte, and by a part
+  -- a sum goes on by one byte, and of two parts is that of each
   pub extras_more : (v : List ℕ) (i n : ℕ) → i < length v → n + extra_of w q (get_or v i 0) + extras_of w q (drop (i + 1) v) ≡ n + extras_of w q (drop i v)
   extras_more v i n h = rw (drop-cons v i 0, add-one) (omega arith)
 
   pub extras_end : (v : List ℕ) (i n : ℕ) → length v ≤ i → n + extras_of w q (drop i v) ≡ n
   extras_end v i n h = rw (drop_of_length-le v h) (omega arith)
 
-  extras_append : (u v : List ℕ) → extras_of w q (u ++ v) ≡ extras_of w q u + extras_of w q v
+  pub extras_append : (u v : List ℕ) → extras_of w q (u ++ v) ≡ extras_of w q u + extras_of w q v
   extras_append [] v = omega arith
   extras_append (b ∷ u) v = omega (arith, extras_append u v)
 
-  extras_short : (v : List ℕ) → extras_of w q v ≤ 3 * length v
+  pub extras_short : (v : List ℕ) → extras_of w q v ≤ 3 * length v
   extras_short [] = omega arith
   extras_short (b ∷ v) = omega (arith, form_short b, extras_short v)
-
-  pub extras_part : (v : List ℕ) (i e m : ℕ) → i ≤ e → e ≤ length v → m ≡ extras_of w q (take (e - i) (drop i v))
-      → (m ≤ 3 * (e - i)) × (m + extras_of w q (drop e v) ≡ extras_of w q (drop i v))
-  extras_part v i e m h l is =
-      let size = length-take-le (e - i) (drop i v) (omega (arith, length-drop i v)) in
-      (omega (arith, extras_short (take (e - i) (drop i v))), rw is (part_sum (extras_of w q) extras_append v i e h))
 
 -- ---- a character above 127
 

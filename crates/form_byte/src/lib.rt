@@ -3,8 +3,8 @@
 
 ghost use Rattle.std.specs.Prelude.{◌≡◌, ◌≤◌, length};
 ghost use Rattle.buffer.specs.Buffer.{Wrote};
-ghost use Rattle.form.specs.Escapes.{escape_letter, x_form};
-ghost use Rattle.form_byte.specs.Styled.{high_form, styled_form, printable};
+ghost use Rattle.form.specs.Escapes.{x_form};
+ghost use Rattle.form_byte.specs.Styled.{styled_form, letter_of, spelled};
 
 // How a kind writes its value: its quote, and whether a byte above 127 stands as itself.
 #[derive(Clone, Copy)]
@@ -13,51 +13,59 @@ pub struct Style {
     pub verbatim: bool,
 }
 
-// What stands after the backslash of an escape of two bytes, or 0.
-fn escape_letter(b: u8, quote: u8) -> u8
-    ensures { result ≡ escape_letter quote b }
+// How a byte of a value is written: as itself, as a backslash and a letter, or as `\x` and its hex digits.
+enum Spelling {
+    Itself,
+    Letter(u8),
+    Hex,
+}
+
+// What stands after the backslash of an escape of two bytes.
+#[tactic(auto, unfolding(crate::specs::Styled::letter_of, form::specs::Escapes::escape_letter))]
+fn escape_letter(b: u8, quote: u8) -> Option<u8>
+    ensures { result ≡ letter_of quote b }
 {
     match b {
-        b'\\' => b'\\',
-        b'\n' => b'n',
-        b'\r' => b'r',
-        b'\t' => b't',
-        0 => b'0',
-        _ => if b == quote { quote } else { 0 },
+        b'\\' => Some(b'\\'),
+        b'\n' => Some(b'n'),
+        b'\r' => Some(b'r'),
+        b'\t' => Some(b't'),
+        0 => Some(b'0'),
+        _ if b == quote => Some(quote),
+        _ => None,
     }
 }
 
-// Whether an ASCII byte is written as itself, unless it has an escape of its own.
-fn is_printable(b: u8) -> bool
-    ensures { result ≡ printable b }
+// How a byte is written. One above 127 has no letter, whatever the quote.
+fn spelling_of(b: u8, style: Style) -> Spelling
+    ensures { spelled result b ≡ styled_form style.verbatim style.quote b }
 {
-    if b < 32 {
-        return false;
+    if 127 < b {
+        return if style.verbatim {
+            Spelling::Itself
+        } else {
+            Spelling::Hex
+        };
     }
-    b < 127
-}
-
-// How long a byte above 127 is in the form.
-fn high_len(verbatim: bool, b: u8) -> usize
-    ensures { result ≡ length (high_form verbatim b) }
-{
-    if verbatim { 1 } else { 4 }
+    match escape_letter(b, style.quote) {
+        Some(letter) => Spelling::Letter(letter),
+        None => match b {
+            b' '..=b'~' => Spelling::Itself,
+            _ => Spelling::Hex,
+        },
+    }
 }
 
 // How long one byte of a value is in the form.
+#[tactic(auto, using(crate::proofs::Styles::x_length))]
 pub fn form_len(b: u8, style: Style) -> usize
     ensures { (result ≡ length (styled_form style.verbatim style.quote b)) × (result ≤ 4) }
 {
-    if 127 < b {
-        return high_len(style.verbatim, b);
+    match spelling_of(b, style) {
+        Spelling::Itself => 1,
+        Spelling::Letter(_) => 2,
+        Spelling::Hex => 4,
     }
-    if escape_letter(b, style.quote) != 0 {
-        return 2;
-    }
-    if is_printable(b) {
-        return 1;
-    }
-    4
 }
 
 // `\x` and two hex digits.
@@ -65,35 +73,19 @@ fn put_x(out: &mut [u8], b: u8) -> usize
     requires { 4 ≤ length out.old }
     ensures { Wrote (x_form b) result out.old out.new }
 {
-    let at = buffer::put_two(out, b'\\', b'x');
+    let at = buffer::put_bytes(out, b"\\x");
     at + buffer::put_hex(&mut out[at..], b)
 }
 
-// Writes a byte above 127: itself, or `\x` and its hex digits.
-fn put_high(out: &mut [u8], verbatim: bool, b: u8) -> usize
-    requires { length (high_form verbatim b) ≤ length out.old }
-    ensures { Wrote (high_form verbatim b) result out.old out.new }
-{
-    if verbatim {
-        return buffer::put_one(out, b);
-    }
-    put_x(out, b)
-}
-
 // One byte of a value.
+#[tactic(auto, using(crate::proofs::Styles::x_length))]
 pub fn put_form(out: &mut [u8], b: u8, style: Style) -> usize
     requires { length (styled_form style.verbatim style.quote b) ≤ length out.old }
     ensures { Wrote (styled_form style.verbatim style.quote b) result out.old out.new }
 {
-    if 127 < b {
-        return put_high(out, style.verbatim, b);
+    match spelling_of(b, style) {
+        Spelling::Itself => buffer::put_bytes(out, &[b]),
+        Spelling::Letter(letter) => buffer::put_bytes(out, &[b'\\', letter]),
+        Spelling::Hex => put_x(out, b),
     }
-    let l = escape_letter(b, style.quote);
-    if l != 0 {
-        return buffer::put_two(out, b'\\', l);
-    }
-    if is_printable(b) {
-        return buffer::put_one(out, b);
-    }
-    put_x(out, b)
 }

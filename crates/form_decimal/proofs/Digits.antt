@@ -3,12 +3,12 @@
 use mathlib.Core.Path.{◌≡◌, refl, sym, ap, ◌∙◌}
 use mathlib.Core.Bool.{Bool, true, false, cond}
 use mathlib.Core.List.{List, [], ◌∷◌, ◌++◌, append-nil}
-use Prim.Native.Nat.{ℕ, suc, ◌+◌, ◌-◌, ◌≤◌, ◌<◌}
+use Prim.Native.Nat.{ℕ, zero, suc, ◌+◌, ◌-◌, ◌≤◌, ◌<◌}
 use native.Mathlib.Numerals.{add-one}
 use native.Mathlib.Omega.{arith}
 use lib.Dec.{eqb}
 use lib.ListN.{length, get_or, take, drop, length-append, length-take, length-drop, take-append-drop}
-use lib.Seq.{take-suc, take-add, length-take-le}
+use lib.Seq.{take-suc, take-add}
 use borrow.Author.Tests.{ne_eqb, not-true, not-false}
 use Rattle.scan.specs.Run.{All}
 use Rattle.scan.proofs.Cases.{cond_in, cond_eq}
@@ -124,16 +124,25 @@ last_append (b ∷ s) t h =
     let e = last_append s t h in
     rw (e, ne_eqb (length s + last_end t) 0 (λ z. omega arith)) (omega arith)
 
--- a loop that goes backwards
-module _ (s : List ℕ) (i : ℕ) (h : i < length s) where
-  pub last_found : significant (get_or s i 0) ≡ true → last_end (take (i + 1) s) ≡ i + 1
-  last_found t =
-      let one : last_end (get_or s i 0 ∷ []) ≡ 1 = rw t in
-      rw (add-one, take-suc s i 0 h)
-      (last_append (take i s) (get_or s i 0 ∷ []) (omega arith) ∙ rw (one, length-take-le i s (omega arith)) (omega arith))
+-- by the last byte that is significant, or none
+none_last : (s : List ℕ) → ((k : ℕ) → k < length s → significant (get_or s k 0) ≡ false) → last_end s ≡ 0
+none_last [] h = refl
+none_last (b ∷ s) h = rw (none_last s (λ k g. h (suc k) (omega arith)), h 0 (omega arith))
 
-  pub last_pass : significant (get_or s i 0) ≡ false → last_end (take (i + 1) s) ≡ last_end (take i s)
-  last_pass t = rw (add-one, take-suc s i 0 h) (last_insignificant (take i s) (get_or s i 0 ∷ []) (rw t))
+pub found_none : (s : List ℕ) → ((k : ℕ) → k < length s → significant (get_or s k 0) ≡ false) → 0 ≡ last_end s
+found_none s h = sym (none_last s h)
+
+last_at : (s : List ℕ) (i : ℕ) → i < length s → significant (get_or s i 0) ≡ true
+    → ((k : ℕ) → i + 1 ≤ k → k < length s → significant (get_or s k 0) ≡ false) → last_end s ≡ i + 1
+last_at [] i l t h = absurd (omega arith)
+last_at (b ∷ s) zero l t h = rw (none_last s (λ k g. h (suc k) (omega arith) (omega arith)), t)
+last_at (b ∷ s) (suc i) l t h =
+    let e = last_at s i (omega arith) t (λ k g f. h (suc k) (omega arith) (omega arith)) in
+    rw (e, ne_eqb (i + 1) 0 (λ z. omega arith)) (omega arith)
+
+pub found_last : (s : List ℕ) (i : ℕ) → i < length s → significant (get_or s i 0) ≡ true
+    → ((k : ℕ) → i + 1 ≤ k → k < length s → significant (get_or s k 0) ≡ false) → i + 1 ≡ last_end s
+found_last s i l t h = sym (last_at s i l t h)
 
 pub last_le : (s : List ℕ) → last_end s ≤ length s
 last_le [] = omega arith

@@ -11,9 +11,8 @@ ghost use Rattle.form_decimal.specs.Digits.{significant, insignificant, digits_o
 ghost use Rattle.form_decimal.specs.Scaled.{decimal_of, FloatOf, clamped, Scales, scaling_by, exponent_start};
 
 use err::{FloatLit, IntegerBase};
-use integer_value::Within;
 
-// Where the digits of the reduced number stand in the mantissa, and its power of ten.
+// Where the digits of the reduced number stand in the mantissa, and its power of ten: sign and size, as the form writes them.
 #[derive(Clone, Copy)]
 pub struct Scaled {
     pub first: usize,
@@ -22,6 +21,7 @@ pub struct Scaled {
     pub power: u64,
 }
 
+// What scaling finds: the number 0, a power that is too far, or the reduced number. Three cases, each with a form or a refusal of its own.
 #[derive(Clone, Copy)]
 pub enum Scaling {
     Zero,
@@ -37,6 +37,7 @@ pub struct Exponent {
 }
 
 // Whether a byte is a digit other than 0.
+#[tactic(auto, unfolding(crate::specs::Digits::significant))]
 fn is_significant(b: u8) -> bool
     ensures { result ≡ significant b }
 {
@@ -50,35 +51,17 @@ fn is_significant(b: u8) -> bool
 fn lead_len(s: &[u8]) -> usize
     ensures { result ≡ run insignificant s.now }
 {
-    let mut i = 0;
-    while i < s.len() {
-        if is_significant(s[i]) {
-            return i;
-        }
-        i += 1;
-    }
-    i
+    s.iter().position(|b| is_significant(*b)).unwrap_or(s.len())
 }
 
 // Where the last significant digit ends.
 fn last_end(s: &[u8]) -> usize
     ensures { result ≡ last_end s.now }
 {
-    let mut i = s.len();
-    while 0 < i {
-        if is_significant(s[i - 1]) {
-            return i;
-        }
-        i -= 1;
+    match s.iter().rposition(|b| is_significant(*b)) {
+        Some(i) => i + 1,
+        None => 0,
     }
-    0
-}
-
-// 1 for a decimal digit, else 0.
-fn one(b: u8) -> u8
-    ensures { (result ≤ 1) × (result ≡ cond (dec_digit b) 1 0) }
-{
-    if parse::is_decimal(b) { 1 } else { 0 }
 }
 
 // How many of at most 255 bytes are digits. Branch-free, with a sum of one byte, so that LLVM vectorises it.
@@ -87,10 +70,8 @@ pub fn count(s: &[u8]) -> u8
     ensures { result ≡ length (digits_of s.now) }
 {
     let mut n: u8 = 0;
-    let mut i = 0;
-    while i < s.len() {
-        n += one(s[i]);
-        i += 1;
+    for b in s {
+        n += u8::from(parse::is_decimal(*b));
     }
     n
 }
@@ -100,46 +81,37 @@ pub fn digits_len(s: &[u8]) -> usize
     ensures { (result ≡ length (digits_of s.now)) × (result ≤ length s.now) }
 {
     let mut n: usize = 0;
-    let mut i = 0;
-    while 64 <= s.len() - i {
-        let e = i + 64;
-        n += count(&s[i..e]) as usize;
-        i = e;
+    for block in s.chunks(64) {
+        n += usize::from(count(block));
     }
-    n + count(&s[i..]) as usize
+    n
 }
 
 // The number that an exponent's digits write, clamped to 2,000,001.
+#[tactic(auto, unfolding(crate::specs::Scaled::clamped))]
 fn size_of(digits: &[u8]) -> u64
     ensures { result ≡ clamped (number 10 digits.now) }
 {
-    let found = integer_value::number_within(digits, IntegerBase::Decimal, 2000000);
-    let Within::Number(n) = found else {
-        return 2000001;
-    };
-    n
+    integer_value::number_within(digits, IntegerBase::Decimal, 2000000).unwrap_or(2000001)
 }
 
 // What stands after the `e`.
 fn exponent_of(ex: &[u8]) -> Exponent
     ensures { (result.negative ≡ begins (byte 45) ex.now) × (result.size ≡ clamped (number 10 (cond (begins SIGN ex.now) (drop 1 ex.now) ex.now))) }
 {
-    let sign = scan::byte_at(ex, 0);
-    if sign == b'-' {
-        return Exponent {
+    match ex {
+        [b'-', digits @ ..] => Exponent {
             negative: true,
-            size: size_of(&ex[1..]),
-        };
-    }
-    if sign == b'+' {
-        return Exponent {
+            size: size_of(digits),
+        },
+        [b'+', digits @ ..] => Exponent {
             negative: false,
-            size: size_of(&ex[1..]),
-        };
-    }
-    Exponent {
-        negative: false,
-        size: size_of(ex),
+            size: size_of(digits),
+        },
+        _ => Exponent {
+            negative: false,
+            size: size_of(ex),
+        },
     }
 }
 

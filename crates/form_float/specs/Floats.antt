@@ -1,12 +1,10 @@
 -- How a scaled number is written, and the length of a float's form as it is answered.
 -- Assumes nothing.
-use Rattle.std.specs.Prelude.{cond, List, ◌∷◌, ◌++◌, ℕ}
+use Rattle.std.specs.Prelude.{cond, List, ◌∷◌, ◌++◌, ℕ, Option, Some, None}
 use Rattle.buffer.specs.Digits.{decimal}
 use Rattle.form_decimal.specs.Digits.{digits_of}
 use Rattle.scan.specs.Part.{part}
 use Rattle.form_decimal.specs.declared.Scaled.{Scaled}
-use Rattle.form_float.specs.declared.FormLen.{FormLen}
-use Rattle.form_float.specs.declared.FormLen.TheVariants as answer
 
 -- `e`, k
 -- 101 is `e`, 45 is `-`
@@ -22,6 +20,6 @@ pub data Length : Type 0 where
   known : ℕ → Length
   too_far : Length
 
-abbrev pub length_of : FormLen → Length
-length_of (answer.Known n) = known n
-length_of answer.TooFar = too_far
+abbrev pub length_of : Option ℕ → Length
+length_of (Some n) = known n
+length_of None = too_far

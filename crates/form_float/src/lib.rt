@@ -12,27 +12,17 @@ ghost use Rattle.form_float.specs.Floats.{power_form, scaled_form, known, too_fa
 use err::FloatLit;
 use form_decimal::{Scaled, Scaling};
 
-// How long a form is.
-#[derive(Clone, Copy)]
-pub enum FormLen {
-    Known(usize),
-    TooFar,
-}
-
 // The digits, without what stands among them, byte by byte.
 fn put_each(out: &mut [u8], s: &[u8]) -> usize
     requires { length (digits_of s.now) ≤ length out.old }
     ensures { Wrote (digits_of s.now) result out.old out.new }
 {
     let mut at: usize = 0;
-    let mut i = 0;
-    while i < s.len() {
-        let b = s[i];
-        if parse::is_decimal(b) {
-            out[at] = b;
+    for b in s {
+        if parse::is_decimal(*b) {
+            out[at] = *b;
             at += 1;
         }
-        i += 1;
     }
     at
 }
@@ -54,11 +44,8 @@ fn put_digits(out: &mut [u8], s: &[u8]) -> usize
     ensures { Wrote (digits_of s.now) result out.old out.new }
 {
     let mut at: usize = 0;
-    let mut i = 0;
-    while i < s.len() {
-        let stop = scan::clamped_end(i, 64, s.len());
-        at += put_block(&mut out[at..], &s[i..stop]);
-        i = stop;
+    for block in s.chunks(64) {
+        at += put_block(&mut out[at..], block);
     }
     at
 }
@@ -83,10 +70,10 @@ fn put_power(out: &mut [u8], r: Scaled) -> usize
     ensures { Wrote (power_form r) result out.old out.new }
 {
     if r.negative {
-        let at = buffer::put_two(out, b'e', b'-');
+        let at = buffer::put_bytes(out, b"e-");
         return at + buffer::put_decimal(&mut out[at..], r.power);
     }
-    let at = buffer::put_one(out, b'e');
+    let at = buffer::put_bytes(out, b"e");
     at + buffer::put_decimal(&mut out[at..], r.power)
 }
 
@@ -102,16 +89,15 @@ fn put_scaled(out: &mut [u8], mantissa: &[u8], r: Scaled) -> usize
 }
 
 // How long the form of a float is without its suffix, or that its power is too far.
-pub fn float_len(text: &[u8], lit: FloatLit) -> FormLen
+pub fn float_len(text: &[u8], lit: FloatLit) -> Option<usize>
     requires { FloatOf text.now lit }
     ensures { length_of result ≡ cond (power_in_range (decimal_of text.now lit)) (known (length (reduced_form (reduce (decimal_of text.now lit))))) too_far }
 {
-    let scaling = form_decimal::scale(text, lit);
     let end = lit.end_fractional_part;
-    match scaling {
-        Scaling::Zero => FormLen::Known(3),
-        Scaling::TooFar => FormLen::TooFar,
-        Scaling::To(r) => FormLen::Known(scaled_len(&text[..end], r)),
+    match form_decimal::scale(text, lit) {
+        Scaling::Zero => Some(3),
+        Scaling::TooFar => None,
+        Scaling::To(r) => Some(scaled_len(&text[..end], r)),
     }
 }
 
@@ -120,10 +106,9 @@ pub fn put_float(out: &mut [u8], text: &[u8], lit: FloatLit) -> usize
     requires { FloatOf text.now lit × ((power_in_range (decimal_of text.now lit) ≡ true) × (length (reduced_form (reduce (decimal_of text.now lit))) ≤ length out.old)) }
     ensures { Wrote (reduced_form (reduce (decimal_of text.now lit))) result out.old out.new }
 {
-    let scaling = form_decimal::scale(text, lit);
     let end = lit.end_fractional_part;
-    match scaling {
-        Scaling::Zero => buffer::put_three(out, b'0', b'e', b'0'),
+    match form_decimal::scale(text, lit) {
+        Scaling::Zero => buffer::put_bytes(out, b"0e0"),
         Scaling::TooFar => 0,
         Scaling::To(r) => put_scaled(out, &text[..end], r),
     }

@@ -4,28 +4,14 @@
 ghost use Rattle.std.specs.Prelude.{◌≡◌, ◌≤◌, length};
 ghost use Rattle.buffer.specs.Buffer.{Wrote};
 ghost use Rattle.form.specs.Form.{integer_form};
-ghost use Rattle.form_integer.specs.Integers.{prefix_letter, doubled};
+ghost use Rattle.form_integer.specs.Integers.{doubled};
 
-// Whether a zero before this byte would be read as the prefix of a base.
-fn is_prefix_letter(b: u8) -> bool
-    ensures { result ≡ prefix_letter b }
-{
-    match b {
-        b'b' => true,
-        b'o' => true,
-        b'x' => true,
-        _ => false,
-    }
-}
-
-// Whether a zero is written twice, so that it and the suffix are not read as a prefix.
+// Whether a zero is written twice, so that it and the suffix are not read as the prefix of a base.
+#[tactic(auto, unfolding(crate::specs::Integers::doubled))]
 fn is_doubled(n: u64, suffix: &[u8]) -> bool
     ensures { result ≡ doubled n suffix.now }
 {
-    if n != 0 {
-        return false;
-    }
-    is_prefix_letter(scan::byte_at(suffix, 0))
+    n == 0 && matches!(suffix, [b'b' | b'o' | b'x', ..])
 }
 
 // How long an integer's form is before this suffix.
@@ -44,7 +30,7 @@ pub fn put_form(out: &mut [u8], n: u64, suffix: &[u8]) -> usize
     ensures { Wrote (integer_form n suffix.now) result out.old out.new }
 {
     if is_doubled(n, suffix) {
-        return buffer::put_two(out, b'0', b'0');
+        return buffer::put_bytes(out, b"00");
     }
     buffer::put_decimal(out, n)
 }

@@ -1,26 +1,29 @@
 -- How long the form of a reading is without its suffix, kind by kind, and where there is none.
 -- Assumes nothing.
-use mathlib.Core.Path.{◌≡◌, refl}
+use mathlib.Core.Path.{◌≡◌, refl, ap, ◌∙◌}
 use mathlib.Core.Bool.{Bool, true, false, cond}
 use mathlib.Core.List.{List}
 use Prim.Native.Nat.{ℕ, ◌+◌}
 use native.Mathlib.Omega.{arith}
 use lib.Dec.{eqb, leb}
 use lib.ListN.{length, length-append}
-use Rattle.err.specs.Outcome.{Place, none}
+use Rattle.std.specs.Prelude.{Option, Some, None, Result, Err, ok_or, IsSome}
+use Rattle.err.specs.Numbers.{number_of}
+use Rattle.err.specs.Outcome.{Place, none, refused}
+use Rattle.err.specs.Reading.{place_of, refusal_of}
+use Rattle.err.specs.declared.ParseError.{ParseError}
 use Rattle.grammar.specs.Meaning.{Worth}
 use Rattle.grammar.specs.Meaning as worth
 use Rattle.form.specs.Form.{bare_form, fault_of, integer_form, reduced_form}
 use Rattle.form.specs.Reduced.{reduce}
 use Rattle.grammar.specs.Decimal.{Decimal}
 use Rattle.integer_value.specs.Value.{number_within}
-use Rattle.integer_value.specs.declared.Within.TheVariants.{Number, Over}
 use Rattle.utf8.specs.Utf8.{Scalar, encode}
 use Rattle.form_byte.specs.Styled.{styled_form, styled_forms}
 use Rattle.form_byte.proofs.Styles.{char_style, byte_style}
 use Rattle.form_decimal.specs.Scaled.{power_in_range}
-use Rattle.form_float.specs.Floats.{Length, known, too_far}
-use Rattle.form_reading.specs.Bare.{BareLength, len, bad, bare_len}
+use Rattle.form_float.specs.Floats.{Length, known, too_far, length_of}
+use Rattle.form_reading.specs.Bare.{BareLength, len, bad, bare_of, bare_len}
 
 -- a length is no refusal
 pub no_len {ℓ} : {A : Type ℓ} {n m : ℕ} {p : Place} → bad m p ≡ len n → A
@@ -41,38 +44,61 @@ byte_length b x = rw (byte_style 39 b, length-append) (omega arith)
 -- ---- integers and floats, which may have none
 
 -- the number that is at most the largest
-pub same_number : (m : ℕ) {n : ℕ} → Number n ≡ number_within 18446744073709551615 m → n ≡ m
+pub same_number : (m : ℕ) {n : ℕ} → Some n ≡ number_within 18446744073709551615 m → n ≡ m
 same_number m {n} = by_test (leb m 18446744073709551615)
   where
-    by_test : (t : Bool) → Number n ≡ cond t (Number m) Over → n ≡ m
+    by_test : (t : Bool) → Some n ≡ cond t (Some m) None → n ≡ m
     by_test true e = cc
     by_test false e = let z : ◌≡◌ {A = ℕ} 0 1 = cc in absurd (omega arith)
 
 module _ (m : ℕ) (x : List ℕ) where
   -- a number that is at most the largest
-  pub is_within : {n : ℕ} → Number n ≡ number_within 18446744073709551615 m → len (length (bare_form (worth.integer n) x)) ≡ bare_len (worth.integer m) x
+  pub is_within : {n : ℕ} → Some n ≡ number_within 18446744073709551615 m → len (length (bare_form (worth.integer n) x)) ≡ bare_len (worth.integer m) x
   unfolding bare_len
   is_within {n} = by_test (leb m 18446744073709551615)
     where
-      by_test : (t : Bool) → Number n ≡ cond t (Number m) Over
+      by_test : (t : Bool) → Some n ≡ cond t (Some m) None
           → len (length (integer_form n x)) ≡ cond (eqb (cond t 0 45) 0) (len (length (integer_form m x))) (bad (cond t 0 45) none)
       by_test true e = let z : n ≡ m = cc in rw z
       by_test false e = let z : ◌≡◌ {A = ℕ} 0 1 = cc in absurd (omega arith)
 
+  -- where there is a form, it is one
+  pub is_some : {o : Option ℕ} {n : ℕ} → o ≡ number_within 18446744073709551615 m → bare_len (worth.integer m) x ≡ len n → IsSome o
+  unfolding bare_len
+  is_some {o} {n} = by_test (leb m 18446744073709551615)
+    where
+      by_test : (t : Bool) → o ≡ cond t (Some m) None
+          → cond (eqb (cond t 0 45) 0) (len (length (integer_form m x))) (bad (cond t 0 45) none) ≡ len n → IsSome o
+      by_test true e h = rw e refl
+      by_test false e h = no_len h
+
   -- or above it
-  pub is_over : Over ≡ number_within 18446744073709551615 m → bad 45 none ≡ bare_len (worth.integer m) x
+  pub is_over : None ≡ number_within 18446744073709551615 m → bad 45 none ≡ bare_len (worth.integer m) x
   unfolding bare_len
   is_over = by_test (leb m 18446744073709551615)
     where
-      by_test : (t : Bool) → Over ≡ cond t (Number m) Over
+      by_test : (t : Bool) → None ≡ cond t (Some m) None
           → bad 45 none ≡ cond (eqb (cond t 0 45) 0) (len (length (integer_form m x))) (bad (cond t 0 45) none)
       by_test true e = let z : ◌≡◌ {A = ℕ} 0 1 = cc in absurd (omega arith)
       by_test false e = refl
+
+-- a refusal with no span
+pub refusing : (m : ℕ) (e : ParseError) → refusal_of e ≡ refused m none → bare_of (Err e) ≡ bad m none
+refusing m e h = let z : number_of e.kind ≡ m = cc in let y : place_of e.span ≡ none = cc in rw (z, y) refl
+
+pub no_value : (o : Option ℕ) (e p : ParseError) → ◌≡◌ {A = Result ℕ ParseError} (Err e) (ok_or o p) → o ≡ None → refusal_of p ≡ refused 45 none
+    → bare_of (Err e) ≡ bad 45 none
+no_value None e p v h f = ap bare_of v ∙ refusing 45 p f
+no_value (Some n) e p v h f = cc
 
 -- the length of a float's form, as form_float returns it
 abbrev pub bare_in : Length → BareLength
 bare_in (known n) = len n
 bare_in too_far = bad 46 none
+
+pub length_or : (o : Option ℕ) (e : ParseError) → refusal_of e ≡ refused 46 none → bare_of (ok_or o e) ≡ bare_in (length_of o)
+length_or (Some n) e h = refl
+length_or None e h = refusing 46 e h
 
 module _ (d : Decimal) (x : List ℕ) where
   pub float_bare : bare_in (cond (power_in_range d) (known (length (reduced_form (reduce d)))) too_far) ≡ bare_len (worth.float d) x

@@ -6,6 +6,7 @@ use mathlib.Core.List.{List}
 use Prim.Native.Nat.{ℕ, ◌≤◌}
 use native.Mathlib.Omega.{arith}
 use lib.ListN.{length}
+use Rattle.std.specs.Prelude.{Ok}
 use Rattle.err.specs.Outcome.{Values, Outcome, accepted, truth}
 use Rattle.err.specs.Reading.{values_of_string, outcome_of}
 use Rattle.err.specs.declared.BoolLit.{BoolLit}
@@ -13,7 +14,7 @@ use Rattle.err.specs.declared.IntegerLit.{IntegerLit}
 use Rattle.err.specs.declared.FloatLit.{FloatLit}
 use Rattle.err.specs.declared.CharLit.{CharLit}
 use Rattle.err.specs.declared.StringLit.{StringLit}
-use Rattle.err.specs.declared.Reading.TheVariants as reading
+use Rattle.err.specs.declared.Literal.TheVariants as literal
 use Rattle.scan.specs.Same.{same}
 use Rattle.scan.proofs.Cases.{cond_in}
 use Rattle.scan.proofs.Sames.{same_eq}
@@ -66,21 +67,21 @@ bool_form s x t {k} {e} =
     P o = o ≡ accepted k e (truth t) → bare_form (worth.bool t) x ≡ s
 
 module _ (s : List ℕ) where
-  pub bool_text : (lit : BoolLit) (x : List ℕ) → outcome_of (reading.Bool lit) ≡ read_at 0 s → bare_form (worth.bool lit.value) x ≡ s
+  pub bool_text : (lit : BoolLit) (x : List ℕ) → outcome_of (Ok (literal.Bool lit)) ≡ read_at 0 s → bare_form (worth.bool lit.value) x ≡ s
   unfolding entry_read
   bool_text lit x is = bool_form s x lit.value (own s is)
 
   -- the digits of an integer stand inside the text
-  pub integer_ends : (lit : IntegerLit) → outcome_of (reading.Integer lit) ≡ read_at 0 s
+  pub integer_ends : (lit : IntegerLit) → outcome_of (Ok (literal.Integer lit)) ≡ read_at 0 s
       → (lit.start_main_part ≤ lit.end_main_part) × (lit.end_main_part ≤ length s)
   unfolding entry_read
   integer_ends lit is = read_ends s (own s is)
 
-  pub float_read_lem : (lit : FloatLit) → outcome_of (reading.Float lit) ≡ read_at 0 s → float_read s ≡ outcome_of (reading.Float lit)
+  pub float_read_lem : (lit : FloatLit) → outcome_of (Ok (literal.Float lit)) ≡ read_at 0 s → float_read s ≡ outcome_of (Ok (literal.Float lit))
   unfolding entry_read
   float_read_lem lit is = own s is
 
-  pub char_scalar : (lit : CharLit) → outcome_of (reading.Char lit) ≡ read_at 0 s → Scalar lit.value
+  pub char_scalar : (lit : CharLit) → outcome_of (Ok (literal.Char lit)) ≡ read_at 0 s → Scalar lit.value
   unfolding entry_read
   char_scalar lit is = char_value s (own s is)
 

@@ -1,14 +1,13 @@
 -- A reading's form without its suffix, and how long it is (01, The settled form).
 -- Assumes nothing.
-use Rattle.std.specs.Prelude.{cond, List, [], ◌≡◌, ℕ, ◌≤◌, eqb, length, drop}
+use Rattle.std.specs.Prelude.{cond, List, [], ◌≡◌, ℕ, ◌≤◌, eqb, length, drop, Result, Ok, Err}
 use Rattle.err.specs.Outcome.{Place, none, Outcome, refused, accepted}
 use Rattle.err.specs.Numbers.{number_of}
 use Rattle.err.specs.Reading.{place_of}
 use Rattle.grammar.specs.Meaning.{Worth}
 use Rattle.form.specs.Form.{bare_form, fault_of}
 use Rattle.form_reading.specs.Worths.{worth_of}
-use Rattle.form_reading.specs.declared.Bare.{Bare}
-use Rattle.form_reading.specs.declared.Bare.TheVariants as bare
+use Rattle.err.specs.declared.ParseError.{ParseError}
 
 -- how long a form is without its suffix, or a refusal's number and span; serves contracts between functions, as `bare_of` does
 pub data BareLength : Type 0 where
@@ -16,9 +15,9 @@ pub data BareLength : Type 0 where
   bad : ℕ → Place → BareLength
 
 -- document 01's number and span for each case of what the code returns
-abbrev pub bare_of : Bare → BareLength
-bare_of (bare.Len n) = len n
-bare_of (bare.Refused k p) = bad (number_of k) (place_of p)
+abbrev pub bare_of : Result ℕ ParseError → BareLength
+bare_of (Ok n) = len n
+bare_of (Err e) = bad (number_of e.kind) (place_of e.span)
 
 -- 01: "Above 2^64 − 1 it is 45", "It is 46 exactly when k is beyond 1,000,000 either way", else the form's length; x is the suffix
 unfoldable pub bare_len : Worth → List ℕ → BareLength

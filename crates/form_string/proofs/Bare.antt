@@ -5,12 +5,12 @@ use mathlib.Core.List.{List, [], ◌∷◌, ◌++◌}
 use Prim.Native.Nat.{ℕ, ◌+◌, ◌≤◌}
 use native.Mathlib.Omega.{arith}
 use lib.ListN.{length, length-append}
+use Rattle.std.specs.Prelude.{Ok}
 use Rattle.err.specs.declared.StringLit.{StringLit}
 use Rattle.utf8.specs.Utf8.{Utf8}
 use Rattle.escape.specs.declared.Allowed.{Allowed}
 use Rattle.escape.specs.declared.Allowed.TheVariants.{Text, Bytes, C}
 use Rattle.form.specs.Form.{bare_form}
-use Rattle.body.specs.declared.Quoted.TheVariants as answer
 use Rattle.form_byte.specs.Styled.{styled_forms}
 use Rattle.form_byte.proofs.Styles.{text_style, bytes_style}
 use Rattle.string.specs.String.{parsed_of, string_read, string_value}
@@ -30,8 +30,8 @@ opening_short Bytes = omega arith
 opening_short C = omega arith
 
 -- of a literal that was read from a UTF-8 text
-module _ (k : Allowed) (s : List ℕ) (lit : StringLit) (u : Utf8 s) (is : parsed_of k (answer.Lit lit) ≡ string_read k s) where
-  value_text : (k : Allowed) → parsed_of k (answer.Lit lit) ≡ string_read k s → k ≡ Text → Utf8 (string_value k s)
+module _ (k : Allowed) (s : List ℕ) (lit : StringLit) (u : Utf8 s) (is : parsed_of k (Ok lit) ≡ string_read k s) where
+  value_text : (k : Allowed) → parsed_of k (Ok lit) ≡ string_read k s → k ≡ Text → Utf8 (string_value k s)
   value_text Text e g = value_utf8 s u (sym e)
   value_text Bytes e g = absurd (let z : ◌≡◌ {A = ℕ} 0 1 = cc in omega arith)
   value_text C e g = absurd (let z : ◌≡◌ {A = ℕ} 0 1 = cc in omega arith)

@@ -1,12 +1,11 @@
 // The settled forms of string, byte string and C string literals, without their suffixes.
 #![tactic(auto)]
 
-ghost use Rattle.std.specs.Prelude.{◌≡◌, [], ◌≤◌, length};
+ghost use Rattle.std.specs.Prelude.{◌≡◌, [], ◌≤◌, length, Ok};
 ghost use Rattle.buffer.specs.Buffer.{Wrote};
 ghost use Rattle.utf8.specs.Utf8.{Utf8};
 ghost use Rattle.form.specs.Form.{bare_form};
 ghost use Rattle.form_byte.specs.Styled.{styled_forms};
-ghost use Rattle.body.specs.declared.Quoted.TheVariants as answer;
 ghost use Rattle.string.specs.String.{parsed_of, string_read, string_value};
 ghost use Rattle.form_string.specs.Strings.{worth_in, opening_of, verbatim_in};
 
@@ -19,52 +18,29 @@ use string::Inner;
 fn style_of(k: Allowed) -> Style
     ensures { (result.quote ≡ 34) × (result.verbatim ≡ verbatim_in k) }
 {
-    match k {
-        Allowed::Text => Style {
-            quote: b'"',
-            verbatim: true,
-        },
-        Allowed::Bytes => Style {
-            quote: b'"',
-            verbatim: false,
-        },
-        Allowed::C => Style {
-            quote: b'"',
-            verbatim: false,
-        },
+    Style {
+        quote: b'"',
+        verbatim: matches!(k, Allowed::Text),
     }
 }
 
-// How long the kind's letter and the opening quote are.
-fn opening_len(k: Allowed) -> usize
-    ensures { result ≡ length (opening_of k) }
+// The kind's letter and the opening quote.
+fn opening(k: Allowed) -> &'static [u8]
+    ensures { result.now ≡ opening_of k }
 {
     match k {
-        Allowed::Text => 1,
-        Allowed::Bytes => 2,
-        Allowed::C => 2,
-    }
-}
-
-// Writes the kind's letter and the opening quote.
-fn put_opening(out: &mut [u8], k: Allowed) -> usize
-    requires { length (opening_of k) ≤ length out.old }
-    ensures { Wrote (opening_of k) result out.old out.new }
-{
-    match k {
-        Allowed::Text => buffer::put_one(out, b'"'),
-        Allowed::Bytes => buffer::put_two(out, b'b', b'"'),
-        Allowed::C => buffer::put_two(out, b'c', b'"'),
+        Allowed::Text => b"\"",
+        Allowed::Bytes => b"b\"",
+        Allowed::C => b"c\"",
     }
 }
 
 // How long the value of a literal that was read from the text is in the form.
 fn content_len(text: &[u8], lit: StringLit, k: Allowed) -> usize
-    requires { (length text.now ≤ 65536) × (parsed_of k (answer.Lit lit) ≡ string_read k text.now) }
+    requires { (length text.now ≤ 65536) × (parsed_of k (Ok lit) ≡ string_read k text.now) }
     ensures { (result ≡ length (styled_forms (verbatim_in k) 34 (string_value k text.now))) × (result ≤ 262144) }
 {
-    let inner = string::inner_range(k, lit);
-    match inner {
+    match string::inner_range(k, lit) {
         Inner::AsItIs(start, end) => form_value::forms_len(&text[start..end], style_of(k)),
         Inner::Escaped(start) => form_value::body_len(&text[start..], k, style_of(k)),
     }
@@ -72,11 +48,10 @@ fn content_len(text: &[u8], lit: StringLit, k: Allowed) -> usize
 
 // Writes the value of a literal that was read from the text, as it is in the form.
 fn put_content(out: &mut [u8], text: &[u8], lit: StringLit, k: Allowed) -> usize
-    requires { ((length text.now ≤ 65536) × (parsed_of k (answer.Lit lit) ≡ string_read k text.now)) × (length (styled_forms (verbatim_in k) 34 (string_value k text.now)) ≤ length out.old) }
+    requires { ((length text.now ≤ 65536) × (parsed_of k (Ok lit) ≡ string_read k text.now)) × (length (styled_forms (verbatim_in k) 34 (string_value k text.now)) ≤ length out.old) }
     ensures { Wrote (styled_forms (verbatim_in k) 34 (string_value k text.now)) result out.old out.new }
 {
-    let inner = string::inner_range(k, lit);
-    match inner {
+    match string::inner_range(k, lit) {
         Inner::AsItIs(start, end) => form_value::put_forms(out, &text[start..end], style_of(k)),
         Inner::Escaped(start) => form_value::put_body(out, &text[start..], k, style_of(k)),
     }
@@ -84,18 +59,18 @@ fn put_content(out: &mut [u8], text: &[u8], lit: StringLit, k: Allowed) -> usize
 
 // How long the form of a literal that was read from the text is, without its suffix.
 pub fn form_len(text: &[u8], lit: StringLit, k: Allowed) -> usize
-    requires { ((length text.now ≤ 65536) × Utf8 text.now) × (parsed_of k (answer.Lit lit) ≡ string_read k text.now) }
+    requires { ((length text.now ≤ 65536) × Utf8 text.now) × (parsed_of k (Ok lit) ≡ string_read k text.now) }
     ensures { (result ≡ length (bare_form (worth_in k (string_value k text.now)) [])) × (result ≤ 262147) }
 {
-    opening_len(k) + content_len(text, lit, k) + 1
+    opening(k).len() + content_len(text, lit, k) + 1
 }
 
 // The form without its suffix: opening, value and closing quote, one after another.
 pub fn put_form(out: &mut [u8], text: &[u8], lit: StringLit, k: Allowed) -> usize
-    requires { (((length text.now ≤ 65536) × Utf8 text.now) × (parsed_of k (answer.Lit lit) ≡ string_read k text.now)) × (length (bare_form (worth_in k (string_value k text.now)) []) ≤ length out.old) }
+    requires { (((length text.now ≤ 65536) × Utf8 text.now) × (parsed_of k (Ok lit) ≡ string_read k text.now)) × (length (bare_form (worth_in k (string_value k text.now)) []) ≤ length out.old) }
     ensures { Wrote (bare_form (worth_in k (string_value k text.now)) []) result out.old out.new }
 {
-    let start = put_opening(out, k);
+    let start = buffer::put_bytes(out, opening(k));
     let at = start + put_content(&mut out[start..], text, lit, k);
-    at + buffer::put_one(&mut out[at..], b'"')
+    at + buffer::put_bytes(&mut out[at..], b"\"")
 }

@@ -1,104 +1,44 @@
 // The value of a quoted literal as its settled form writes it, many bytes at once: a slice of it, a character, a whole body.
 #![tactic(auto)]
 
-ghost use Rattle.std.specs.Prelude.{◌≡◌, cond, ◌+◌, ◌-◌, ◌*◌, ◌≤◌, min, length, drop};
-ghost use Rattle.scan.specs.Run.{run};
+ghost use Rattle.std.specs.Prelude.{◌≡◌, ◌*◌, ◌≤◌, length};
 ghost use Rattle.buffer.specs.Buffer.{Wrote};
 ghost use Rattle.utf8.specs.Utf8.{Scalar, encode};
 ghost use Rattle.escape.specs.Escape.{bytes_of, Valid};
 ghost use Rattle.body.specs.Body.{body};
-ghost use Rattle.form_byte.specs.Styled.{styled_forms, extra_of, extras_of, itself};
+ghost use Rattle.form_value.specs.Sets.{in_itself};
+ghost use Rattle.form_byte.specs.Styled.{styled_forms, extra_of, extras_of};
 
 use escape::{Allowed, Unescaped};
 use form_byte::Style;
+use scan::ByteSet;
 
-// Whether the form of a byte is the byte.
-fn is_itself(b: u8, style: Style) -> bool
-    ensures { result ≡ itself style.verbatim style.quote b }
-{
-    if b < 32 {
-        return false;
-    }
-    if b == b'\\' {
-        return false;
-    }
-    if b == style.quote {
-        return false;
-    }
-    if b < 127 {
-        return true;
-    }
-    if b == 127 {
-        return false;
-    }
-    style.verbatim
-}
+// The bytes whose form is the byte.
+#[derive(Clone, Copy)]
+pub struct Itself(pub Style);
 
-// j where the byte at j ends a run in a block of 64 bytes, else 64.
-fn place(b: u8, j: u8, style: Style) -> u8
-    ensures { result ≡ cond (itself style.verbatim style.quote b) 64 j }
-{
-    if is_itself(b, style) { 64 } else { j }
-}
+impl ByteSet for Itself {
+    ghost holds = { in_itself };
 
-// Where the run of bytes that are their own forms ends in 64 bytes. Branch-free, over one-byte numbers, so that
-// LLVM vectorises it.
-fn block_run(s: &[u8], style: Style) -> u8
-    requires { length s.now ≡ 64 }
-    ensures { result ≡ run (itself style.verbatim style.quote) s.now }
-{
-    let mut m: u8 = 64;
-    let mut j: u8 = 0;
-    while j < 64 {
-        m = scan::smaller(m, place(s[j as usize], j, style));
-        j += 1;
-    }
-    m
-}
-
-// Where that run ends from an offset, or `stop` where the run goes on, byte by byte.
-fn byte_run(s: &[u8], from: usize, stop: usize, style: Style) -> usize
-    requires { (from ≤ stop) × (stop ≤ length s.now) }
-    ensures { result ≡ from + min (stop - from) (run (itself style.verbatim style.quote) (drop from s.now)) }
-{
-    let mut i = from;
-    while i < stop {
-        if !is_itself(s[i], style) {
-            return i;
+    #[tactic(auto, unfolding(form_byte::specs::Styled::itself))]
+    fn contains(self, b: u8) -> bool {
+        if b < 32 {
+            return false;
         }
-        i += 1;
-    }
-    i
-}
-
-// By blocks while there are 64 bytes.
-fn block_end(s: &[u8], from: usize, style: Style) -> usize
-    requires { from ≤ length s.now }
-    ensures { result ≡ from + run (itself style.verbatim style.quote) (drop from s.now) }
-{
-    let mut i = from;
-    while 64 <= s.len() - i {
-        let e = i + 64;
-        let m = block_run(&s[i..e], style);
-        if m < 64 {
-            return i + m as usize;
+        if b == b'\\' {
+            return false;
         }
-        i = e;
+        if b == self.0.quote {
+            return false;
+        }
+        if b < 127 {
+            return true;
+        }
+        if b == 127 {
+            return false;
+        }
+        self.0.verbatim
     }
-    byte_run(s, i, s.len(), style)
-}
-
-// Where the run of bytes that are their own forms ends. A short run pays for no block.
-fn itself_end(s: &[u8], from: usize, style: Style) -> usize
-    requires { from ≤ length s.now }
-    ensures { result ≡ from + run (itself style.verbatim style.quote) (drop from s.now) }
-{
-    let stop = scan::clamped_end(from, 16, s.len());
-    let i = byte_run(s, from, stop, style);
-    if i < stop {
-        return i;
-    }
-    block_end(s, i, style)
 }
 
 // How many bytes more than one a byte of a value has in the form.
@@ -114,27 +54,22 @@ fn extras(s: &[u8], style: Style) -> u8
     ensures { result ≡ extras_of style.verbatim style.quote s.now }
 {
     let mut n: u8 = 0;
-    let mut i = 0;
-    while i < s.len() {
-        n += extra(s[i], style);
-        i += 1;
+    for b in s {
+        n += extra(*b, style);
     }
     n
 }
 
-// How long the bytes of a slice are in the form: by blocks while there are 64 bytes, then the rest.
+// How long the bytes of a slice are in the form, by blocks of 64 bytes.
 pub fn forms_len(s: &[u8], style: Style) -> usize
     requires { length s.now ≤ 65536 }
     ensures { (result ≡ length (styled_forms style.verbatim style.quote s.now)) × (result ≤ 4 * length s.now) }
 {
     let mut n: usize = s.len();
-    let mut i = 0;
-    while 64 <= s.len() - i {
-        let e = i + 64;
-        n += extras(&s[i..e], style) as usize;
-        i = e;
+    for block in s.chunks(64) {
+        n += usize::from(extras(block, style));
     }
-    n + extras(&s[i..], style) as usize
+    n
 }
 
 // The bytes of a slice, one after another: a run of those that are their own forms at once.
@@ -144,8 +79,9 @@ pub fn put_forms(out: &mut [u8], s: &[u8], style: Style) -> usize
 {
     let mut at: usize = 0;
     let mut i = 0;
+    // no `for`: a turn goes on by a length that it finds
     while i < s.len() {
-        let e = itself_end(s, i, style);
+        let e = blocks::run_end(s, i, Itself(style));
         at += buffer::put_bytes(&mut out[at..], &s[i..e]);
         if e == s.len() {
             return at;
@@ -225,6 +161,7 @@ pub fn body_len(s: &[u8], k: Allowed, style: Style) -> usize
     let end = s.len() - utf8::last_len(s);
     let mut i = 0;
     let mut n: usize = 0;
+    // no `for`: a turn goes on by a length that it finds
     loop {
         if scan::byte_at(s, i) == b'\\' {
             let c = body::packed_at(s, i, end, k);
@@ -252,6 +189,7 @@ pub fn put_body(out: &mut [u8], s: &[u8], k: Allowed, style: Style) -> usize
     let end = s.len() - utf8::last_len(s);
     let mut i = 0;
     let mut at: usize = 0;
+    // no `for`: a turn goes on by a length that it finds
     loop {
         if scan::byte_at(s, i) == b'\\' {
             let c = body::packed_at(s, i, end, k);

@@ -10,8 +10,7 @@ use lib.ListN.{length, drop, get_or, length-append}
 use borrow.Author.Tests.{ne_eqb}
 use Rattle.utf8.specs.Utf8.{encode}
 use Rattle.utf8.specs.Decode.{decode}
-use Rattle.utf8.specs.declared.Decoded.{Decoded}
-use Rattle.utf8.specs.declared.Decoded.TheVariants.{Char, Bad}
+use Rattle.std.specs.Prelude.{Option, Some, None}
 use Rattle.utf8.proofs.Laws.{by_row, decode_encode}
 use Rattle.grammar.specs.Notation.{Class, byte, ◌∪◌, all, begins}
 use Rattle.grammar.specs.Suffixes.{LOW}
@@ -208,9 +207,9 @@ c_string_needs = reads_needs C_STRING_PIECE byte_worth c_string_reads
 -- ---- one character
 
 -- how many bytes and which character
-abbrev char_pair : Decoded → ℕ × ℕ
-char_pair (Char v n) = (n, v)
-char_pair Bad = (0, 0)
+abbrev char_pair : Option (ℕ × ℕ) → ℕ × ℕ
+char_pair (Some (v, n)) = (n, v)
+char_pair None = (0, 0)
 
 abbrev char_of : Found → List ℕ → ℕ × ℕ
 char_of (plain c) s = char_pair (decode s)

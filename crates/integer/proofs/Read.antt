@@ -7,30 +7,25 @@ use Prim.Native.Nat.{ℕ, ◌-◌, ◌<◌}
 use native.Mathlib.Nat.{add-sub_cancel_left}
 use native.Mathlib.Omega.{arith}
 use lib.ListN.{length, get_or}
+use Rattle.std.specs.Prelude.{Ok}
 use Rattle.err.specs.Outcome.{Outcome, Values, refused, accepted, none, between}
 use Rattle.err.specs.declared.IntegerLit.{IntegerLit}
-use Rattle.scan.specs.Byte.{byte_of}
-use Rattle.scan.specs.declared.Byte.TheVariants.{At, Nothing}
-use Rattle.scan.proofs.Bytes.{first_none, first_some}
 use Rattle.scan.proofs.Cases.{cond_in, clash}
 use Rattle.parse.specs.Class.{class_of}
 use Rattle.parse.specs.Sets.{dec_digit}
-use Rattle.integer.specs.declared.Parsed.TheVariants as parsed
 use Rattle.integer.specs.Integer.{Scanned, parsed_of, after_suffix, after_digits, integer_of, integer_at, integer_read}
 use Rattle.integer.proofs.Suffixed.{never}
 
 pub at_scan : (l : IntegerLit) (s : List ℕ) → Scanned l s →
-    integer_at s ≡ after_suffix s l.end_main_part (after_digits s l.start_main_part l.end_main_part (l.end_main_part - l.start_main_part) (parsed_of (parsed.Lit l)))
+    integer_at s ≡ after_suffix s l.end_main_part (after_digits s l.start_main_part l.end_main_part (l.end_main_part - l.start_main_part) (parsed_of (Ok l)))
 unfolding integer_at integer_of
 at_scan l s h = rw (h.end, h.start, h.base, add-sub_cancel_left)
 
--- what `get` says of the first byte
-pub read_none : (s : List ℕ) → byte_of s 0 ≡ Nothing → refused 1 none ≡ integer_read s
+-- the empty text
+pub read_none : (s : List ℕ) → length s ≡ 0 → refused 1 none ≡ integer_read s
 unfolding integer_read
-read_none s h = rw (first_none s h)
-
-pub first_byte : (s : List ℕ) (b : ℕ) → byte_of s 0 ≡ At b → (0 < length s) × (b ≡ get_or s 0 0)
-first_byte s b h = rw (first_some s b h) (omega arith, refl)
+read_none [] h = refl
+read_none (b ∷ s) h = absurd (omega arith)
 
 pub read_digit : (s : List ℕ) → dec_digit (get_or s 0 0) ≡ true → integer_at s ≡ integer_read s
 unfolding integer_read dec_digit class_of

@@ -1,21 +1,18 @@
 -- What litrs's `IntegerLit::parse` returns (01, Integers), in its order of tests.
 -- Assumes nothing.
-use Rattle.std.specs.Prelude.{ℕ, ◌+◌, ◌≤◌, ◌≡◌, Bool, cond, List, [], ◌∷◌, eqb, length, get_or, take, drop}
+use Rattle.std.specs.Prelude.{ℕ, ◌+◌, ◌≤◌, ◌≡◌, cond, List, [], ◌∷◌, eqb, length, get_or, take, drop, Result, Ok, Err}
 use Rattle.err.specs.Outcome.{Outcome, refused, accepted, none, between, digits}
-use Rattle.err.specs.Reading.{base_of, prefix_of, outcome_of}
+use Rattle.err.specs.Reading.{base_of, outcome_of, refusal_of}
 use Rattle.err.specs.Counts.{Counts, no_counts, counts_of}
-use Rattle.err.specs.declared.IntegerBase.{IntegerBase}
 use Rattle.err.specs.declared.IntegerLit.{IntegerLit}
-use Rattle.err.specs.declared.Reading.TheVariants as reading
+use Rattle.err.specs.declared.Literal.TheVariants as literal
+use Rattle.err.specs.declared.ParseError.{ParseError}
 use Rattle.scan.specs.Run.{run}
-use Rattle.scan.specs.Same.{same}
 use Rattle.scan.specs.Sets.{only}
 use Rattle.scan.specs.Part.{part}
 use Rattle.parse.specs.Sets.{digit, dec_digit, starts_e}
 use Rattle.parse.specs.Digits.{digit_count}
 use Rattle.suffix.specs.Suffix.{suffix_fault}
-use Rattle.integer.specs.declared.Parsed.{Parsed}
-use Rattle.integer.specs.declared.Parsed.TheVariants as parsed
 
 -- "Prefixes are `0b`, `0o`, `0x`, lower case only": the base that the first two bytes announce
 -- 48 is `0`, 98 is `b`, 111 is `o`, 120 is `x`
@@ -26,10 +23,6 @@ base_at s =
     (cond (eqb (get_or s 1 0) 111) 8
     (cond (eqb (get_or s 1 0) 120) 16 10)))
     10
-
--- "Prefixes are `0b`, `0o`, `0x`, lower case only": whether a text starts with a base's prefix; base ten has none, and every text starts with it
-unfoldable pub has_prefix : IntegerBase → List ℕ → Bool
-has_prefix base s = same (take (length (prefix_of base)) s) (prefix_of base)
 
 -- the length of a base's prefix
 unfoldable pub prefix_len : ℕ → ℕ
@@ -78,19 +71,14 @@ integer_read [] = refused 1 none
 integer_read (b ∷ s) = cond (dec_digit b) (integer_at (b ∷ s)) (refused 4 (between 0 1))
 
 -- document 01's numbers and values for each case
-abbrev pub parsed_of : Parsed → Outcome
-parsed_of (parsed.Lit l) = outcome_of (reading.Integer l)
-parsed_of (parsed.Refused k p) = outcome_of (reading.Refused k p)
+abbrev pub parsed_of : Result IntegerLit ParseError → Outcome
+parsed_of (Ok l) = outcome_of (Ok (literal.Integer l))
+parsed_of (Err e) = refusal_of e
 
 -- the counts that it holds
-abbrev pub parsed_counts : Parsed → Counts
-parsed_counts (parsed.Lit l) = counts_of (reading.Integer l)
-parsed_counts (parsed.Refused k p) = no_counts
-
--- whether an answer is a refusal; serves a contract between functions
-abbrev pub IsRefused : Parsed → Type 0
-IsRefused (parsed.Lit l) = ⊥
-IsRefused (parsed.Refused k p) = Unit {0}
+abbrev pub parsed_counts : Result IntegerLit ParseError → Counts
+parsed_counts (Ok l) = counts_of (Ok (literal.Integer l))
+parsed_counts (Err e) = no_counts
 
 -- what the scan of base and digits finds
 pub record Scanned (l : IntegerLit) (s : List ℕ) : Type 0 where

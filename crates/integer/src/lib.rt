@@ -1,54 +1,27 @@
 // Integer literals: their base and digits, and their suffix.
 #![tactic(auto)]
 
-ghost use Rattle.std.specs.Prelude.{◌≡◌, ◌≤◌, length};
-ghost use Rattle.err.specs.Reading.{outcome_of, base_of, prefix_of};
-ghost use Rattle.err.specs.Counts.{no_counts, counts_of, kept_counts};
+ghost use Rattle.std.specs.Prelude.{◌≡◌, ◌≤◌, length, Ok};
+ghost use Rattle.err.specs.Reading.{base_of, prefix_of};
+ghost use Rattle.err.specs.Counts.{kept_counts};
 ghost use Rattle.parse.specs.Digits.{DigitScan};
 ghost use Rattle.digits.specs.Counts.{digit_counts};
-ghost use Rattle.integer.specs.Integer.{base_at, has_prefix, Scanned, parsed_of, parsed_counts, IsRefused, after_suffix, integer_at, integer_read};
+ghost use Rattle.integer.specs.Integer.{base_at, Scanned, parsed_of, parsed_counts, after_suffix, integer_at, integer_read};
 
-use err::{Checked, IntegerBase, IntegerLit, ParseErrorKind, Reading, Span};
+use err::{IntegerBase, IntegerLit, ParseError, ParseErrorKind};
 use parse::DigitRun;
-use scan::Byte;
-
-// An integer literal, or why a text is none.
-#[derive(Clone, Copy)]
-pub enum Parsed {
-    Lit(IntegerLit),
-    Refused(ParseErrorKind, Span),
-}
-
-// Whether a text starts with the prefix of a base that has one (all but ten).
-fn has_prefix(text: &[u8], base: IntegerBase) -> bool
-    requires { (length (prefix_of base) ≡ 2) × (2 ≤ length text.now) }
-    ensures { result ≡ has_prefix base text.now }
-{
-    let prefix = base.prefix();
-    let bytes = prefix.bytes;
-    if text[0] != bytes[0] {
-        return false;
-    }
-    text[1] == bytes[1]
-}
 
 // The base that the first two bytes announce.
+#[tactic(auto, unfolding(crate::specs::Integer::base_at))]
 fn base_of(text: &[u8]) -> IntegerBase
     ensures { (base_of result ≡ base_at text.now) × (length (prefix_of result) ≤ length text.now) }
 {
-    if text.len() < 2 {
-        return IntegerBase::Decimal;
+    match text {
+        [b'0', b'b', ..] => IntegerBase::Binary,
+        [b'0', b'o', ..] => IntegerBase::Octal,
+        [b'0', b'x', ..] => IntegerBase::Hexadecimal,
+        _ => IntegerBase::Decimal,
     }
-    if has_prefix(text, IntegerBase::Binary) {
-        return IntegerBase::Binary;
-    }
-    if has_prefix(text, IntegerBase::Octal) {
-        return IntegerBase::Octal;
-    }
-    if has_prefix(text, IntegerBase::Hexadecimal) {
-        return IntegerBase::Hexadecimal;
-    }
-    IntegerBase::Decimal
 }
 
 // The digits and `_` at the front.
@@ -66,8 +39,7 @@ fn scan(text: &[u8]) -> IntegerLit
     ensures { Scanned result text.now }
 {
     let base = base_of(text);
-    let prefix = base.prefix();
-    let start = prefix.len;
+    let start = base.prefix().len();
     let main = main_part(&text[start..], base);
     IntegerLit {
         base,
@@ -78,86 +50,51 @@ fn scan(text: &[u8]) -> IntegerLit
 }
 
 // The literal where its suffix is good, or the suffix's refusal.
-fn check_end(text: &[u8], lit: IntegerLit) -> Parsed
+fn check_end(text: &[u8], lit: IntegerLit) -> Result<IntegerLit, ParseError>
     requires { lit.end_main_part ≤ length text.now }
-    ensures outcome { parsed_of result ≡ after_suffix text.now lit.end_main_part (parsed_of (Parsed.Lit lit)) }
-    ensures counts { parsed_counts result ≡ kept_counts (parsed_counts (Parsed.Lit lit)) (parsed_of result) }
+    ensures outcome { parsed_of result ≡ after_suffix text.now lit.end_main_part (parsed_of (Ok lit)) }
+    ensures counts { parsed_counts result ≡ kept_counts (parsed_counts (Ok lit)) (parsed_of result) }
 {
     let end = lit.end_main_part;
     // most literals have no suffix
     if end == text.len() {
-        return Parsed::Lit(lit);
+        return Ok(lit);
     }
-    let checked = suffix::check_suffix(&text[end..]);
-    let Checked::Bad(kind) = checked else {
-        return Parsed::Lit(lit);
+    let Err(kind) = suffix::check_suffix(&text[end..]) else {
+        return Ok(lit);
     };
     if parse::is_decimal(scan::byte_at(text, end)) {
-        return Parsed::Refused(ParseErrorKind::InvalidDigit, Span::Between(end, end + 1));
+        return Err(err::perr(ParseErrorKind::InvalidDigit, end, end + 1));
     }
-    Parsed::Refused(kind, Span::Between(end, text.len()))
+    Err(err::perr(kind, end, text.len()))
 }
 
 // Of a text whose first byte is a decimal digit.
-fn parse_impl(text: &[u8]) -> Parsed
+fn parse_impl(text: &[u8]) -> Result<IntegerLit, ParseError>
     ensures outcome { parsed_of result ≡ integer_at text.now }
     ensures counts { parsed_counts result ≡ digit_counts text.now (parsed_of result) }
 {
-    let lit = scan(text);
-    let checked = check_end(text, lit);
-    let Parsed::Lit(_) = checked else {
-        return checked;
-    };
+    let lit = check_end(text, scan(text))?;
     let start = lit.start_main_part;
     let end = lit.end_main_part;
     if parse::has_e(text, end) {
         let n = end - start;
-        return Parsed::Refused(
-            ParseErrorKind::IntegerSuffixStartingWithE,
-            Span::Between(n, n + 1),
-        );
+        return Err(err::perr(ParseErrorKind::IntegerSuffixStartingWithE, n, n + 1));
     }
     if lit.digits == 0 {
-        return Parsed::Refused(ParseErrorKind::NoDigits, Span::Between(start, end));
+        return Err(err::perr(ParseErrorKind::NoDigits, start, end));
     }
-    Parsed::Lit(lit)
-}
-
-// The integer literal that a text is, or why it is none.
-fn parse_lit(text: &[u8]) -> Parsed
-    ensures outcome { parsed_of result ≡ integer_read text.now }
-    ensures counts { parsed_counts result ≡ digit_counts text.now (parsed_of result) }
-{
-    let first = scan::get(text, 0);
-    let Byte::At(b) = first else {
-        return Parsed::Refused(ParseErrorKind::Empty, Span::Nowhere);
-    };
-    if parse::is_decimal(b) {
-        return parse_impl(text);
-    }
-    Parsed::Refused(ParseErrorKind::DoesNotStartWithDigit, Span::Between(0, 1))
-}
-
-// The refusal as a reading.
-fn refusal(parsed: Parsed) -> Reading
-    requires { IsRefused parsed }
-    ensures { (outcome_of result ≡ parsed_of parsed) × (counts_of result ≡ no_counts) }
-{
-    match parsed {
-        // ruled out by `requires`
-        Parsed::Lit(_) => err::perr_nowhere(ParseErrorKind::InvalidLiteral),
-        Parsed::Refused(kind, span) => Reading::Refused(kind, span),
-    }
+    Ok(lit)
 }
 
 // litrs's `IntegerLit::parse`; the digits are counted besides (02, d).
-pub fn parse(text: &[u8]) -> Reading
-    ensures outcome { outcome_of result ≡ integer_read text.now }
-    ensures counts { counts_of result ≡ digit_counts text.now (integer_read text.now) }
+pub fn parse(text: &[u8]) -> Result<IntegerLit, ParseError>
+    ensures outcome { parsed_of result ≡ integer_read text.now }
+    ensures counts { parsed_counts result ≡ digit_counts text.now (integer_read text.now) }
 {
-    let parsed = parse_lit(text);
-    let Parsed::Lit(lit) = parsed else {
-        return refusal(parsed);
-    };
-    Reading::Integer(lit)
+    match text.first() {
+        None => Err(err::perr_nowhere(ParseErrorKind::Empty)),
+        Some(b) if parse::is_decimal(*b) => parse_impl(text),
+        Some(_) => Err(err::perr(ParseErrorKind::DoesNotStartWithDigit, 0, 1)),
+    }
 }

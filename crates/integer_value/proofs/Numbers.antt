@@ -16,7 +16,7 @@ use Rattle.scan.proofs.Cases.{cond_in, by_lt}
 use Rattle.parse.specs.Class.{class_of}
 use Rattle.parse.specs.Sets.{dec_digit}
 use Rattle.parse.proofs.Classes.{class_decimal, dec_digit_ends}
-use Rattle.integer_value.specs.declared.Within.TheVariants.{Number, Over}
+use Rattle.std.specs.Prelude.{Some, None}
 use Rattle.integer_value.specs.Value.{number_from, number, number_within}
 
 -- ---- byte by byte
@@ -44,10 +44,10 @@ pub number_above : (base n largest : ℕ) (s : List ℕ) (i : ℕ) → 0 < base 
 number_above base n largest s i p h e l =
     omega (arith, number_more base n s i h e, number_grows base (n * base + class_of (get_or s i 0)) (drop (i + 1) s) p)
 
-pub within_given : (largest n m : ℕ) → n ≡ m → n ≤ largest → Number n ≡ number_within largest m
+pub within_given : (largest n m : ℕ) → n ≡ m → n ≤ largest → Some n ≡ number_within largest m
 within_given largest n m e h = rw (← e, le-leb n largest h)
 
-pub within_over : (largest m : ℕ) → largest < m → Over ≡ number_within largest m
+pub within_over : (largest m : ℕ) → largest < m → None ≡ number_within largest m
 within_over largest m h = rw (lt-leb m largest h)
 
 -- ---- with one digit more: far below the largest, above it, and near

@@ -13,19 +13,18 @@ use Rattle.err.proofs.Values.{digits_same}
 use Rattle.integer.specs.Integer.{integer_read}
 use Rattle.integer.specs.Parts.{IntegerParts}
 use Rattle.integer.proofs.Parts.{sound, complete, main_part_lem}
-use Rattle.integer_value.specs.declared.Within.{Within}
-use Rattle.integer_value.specs.declared.Within.TheVariants.{Number, Over}
+use Rattle.std.specs.Prelude.{Option, Some, None}
 use Rattle.integer_value.specs.Value.{number, number_within, Valued, returned, refusal, bounded, integer_lit_value}
 
 -- a number that is given or above the largest, as a value
-abbrev pub valued_in : Within → Valued
-valued_in (Number n) = returned n
-valued_in Over = refusal 45 none
+abbrev pub valued_in : Option ℕ → Valued
+valued_in (Some n) = returned n
+valued_in None = refusal 45 none
 
 pub bounded_is : (largest n : ℕ) → valued_in (number_within largest n) ≡ bounded largest n
 bounded_is largest n = by_test (leb n largest)
   where
-    by_test : (t : Bool) → valued_in (cond t (Number n) Over) ≡ cond t (returned n) (refusal 45 none)
+    by_test : (t : Bool) → valued_in (cond t (Some n) None) ≡ cond t (returned n) (refusal 45 none)
     by_test true = refl
     by_test false = refl
 

@@ -1,6 +1,6 @@
 -- What litrs's `IntegerLit::value` returns at a type, over the type's largest value (01, Integers).
 -- Assumes nothing.
-use Rattle.std.specs.Prelude.{ℕ, ◌+◌, ◌*◌, cond, List, [], ◌∷◌, eqb, leb}
+use Rattle.std.specs.Prelude.{ℕ, ◌+◌, ◌*◌, cond, List, [], ◌∷◌, eqb, leb, Option, Some, None, Result, Ok, Err}
 use Rattle.err.specs.Outcome.{Outcome, refused, accepted, none}
 use Rattle.err.specs.Answer.{Answer}
 pub use Rattle.err.specs.Answer.{returned, refusal}
@@ -8,10 +8,7 @@ use Rattle.err.specs.Numbers.{number_of}
 use Rattle.err.specs.Reading.{place_of}
 use Rattle.parse.specs.Class.{class_of}
 use Rattle.integer.specs.Integer.{base_at, main_part, integer_read}
-use Rattle.integer_value.specs.declared.Within.{Within}
-use Rattle.integer_value.specs.declared.Within.TheVariants.{Number, Over}
-use Rattle.integer_value.specs.declared.IntegerValue.{IntegerValue}
-use Rattle.integer_value.specs.declared.IntegerValue.TheVariants as value
+use Rattle.err.specs.declared.ParseError.{ParseError}
 
 -- the number that digits of a base write after a number n already read; `_` is passed over
 -- 95 is `_`
@@ -24,16 +21,16 @@ unfoldable pub number : ℕ → List ℕ → ℕ
 number base s = number_from base 0 s
 
 -- "given exactly when at most the type's largest"
-abbrev pub number_within : ℕ → ℕ → Within
-number_within largest n = cond (leb n largest) (Number n) Over
+abbrev pub number_within : ℕ → ℕ → Option ℕ
+number_within largest n = cond (leb n largest) (Some n) None
 
 -- a value, or a refusal
 abbrev pub Valued : Type 0
 Valued = Answer ℕ
 
-abbrev pub valued_of : IntegerValue → Valued
-valued_of (value.Given n) = returned n
-valued_of (value.Refused k p) = refusal (number_of k) (place_of p)
+abbrev pub valued_of : Result ℕ ParseError → Valued
+valued_of (Ok n) = returned n
+valued_of (Err e) = refusal (number_of e.kind) (place_of e.span)
 
 -- above the largest it is refused with 45
 abbrev pub bounded : ℕ → ℕ → Valued

@@ -6,10 +6,10 @@ use Prim.Native.Nat.{ℕ, ◌<◌}
 use mathlib.Core.Logic.{◌⊎◌, inl, inr}
 use native.Mathlib.Omega.{arith}
 use Rattle.err.specs.Outcome.{Place, Values, Outcome, refused, accepted}
-use Rattle.err.specs.Reading.{outcome_of}
+use Rattle.std.specs.Prelude.{Ok, Err}
+use Rattle.err.specs.Reading.{Reading, outcome_of}
 use Rattle.err.specs.Counts.{no_counts, counts_of}
-use Rattle.err.specs.declared.Reading.{Reading}
-use Rattle.err.specs.declared.Reading.TheVariants as reading
+use Rattle.err.specs.declared.Literal.TheVariants as literal
 use Rattle.digits.specs.Counts.{digit_counts}
 use Rattle.boolean.specs.Bool.{bool_read}
 use Rattle.escape.specs.declared.Allowed.{Allowed}
@@ -32,15 +32,15 @@ no_number (inr a) (inl b) = absurd (omega arith)
 no_number (inr a) (inr b) = absurd (omega arith)
 
 by_case : (r : Reading) (s : List ℕ) → ((k e : ℕ) (vs : Values) → outcome_of r ≡ accepted k e vs → NoNumber k) → counts_of r ≡ digit_counts s (outcome_of r)
-by_case (reading.Refused k p) s h = refl
-by_case (reading.Bool l) s h = refl
-by_case (reading.Integer l) s h = no_number (h _ _ _ refl) (inl refl)
-by_case (reading.Float l) s h = no_number (h _ _ _ refl) (inr refl)
-by_case (reading.Char l) s h = refl
-by_case (reading.String l) s h = refl
-by_case (reading.Byte l) s h = refl
-by_case (reading.ByteString l) s h = refl
-by_case (reading.CString l) s h = refl
+by_case (Err x) s h = refl
+by_case (Ok (literal.Bool l)) s h = refl
+by_case (Ok (literal.Integer l)) s h = no_number (h _ _ _ refl) (inl refl)
+by_case (Ok (literal.Float l)) s h = no_number (h _ _ _ refl) (inr refl)
+by_case (Ok (literal.Char l)) s h = refl
+by_case (Ok (literal.String l)) s h = refl
+by_case (Ok (literal.Byte l)) s h = refl
+by_case (Ok (literal.ByteString l)) s h = refl
+by_case (Ok (literal.CString l)) s h = refl
 
 -- of what a text is read as
 uncounted : (r : Reading) (s : List ℕ) (o : Outcome) → ((k e : ℕ) (vs : Values) → o ≡ accepted k e vs → NoNumber k) → outcome_of r ≡ o → counts_of r ≡ digit_counts s o

@@ -1,32 +1,39 @@
 -- Entry 0 answers a text as the entry that is chosen for it.
 -- Assumes nothing.
-use mathlib.Core.Path.{◌≡◌, refl}
+use mathlib.Core.Path.{◌≡◌, refl, ap, sym, ◌∙◌}
 use mathlib.Core.Bool.{Bool, true, false, cond, ◌||◌}
 use mathlib.Core.List.{List, [], ◌∷◌}
 use Prim.Native.Nat.{ℕ, zero, suc, ◌≤◌}
 use native.Mathlib.Omega.{arith}
 use lib.Dec.{eqb}
 use lib.ListN.{get_or}
+use Rattle.std.specs.Prelude.{Option, Some, None, min}
 use Rattle.err.specs.Outcome.{Outcome, refused, none}
+use Rattle.err.specs.declared.Kind.{Kind}
+use Rattle.err.specs.declared.Kind.TheVariants as kind
 use Rattle.parse.specs.Sets.{dec_digit}
 use Rattle.boolean.specs.Bool.{bool_read}
+use Rattle.escape.specs.declared.Allowed.TheVariants.{Text, Bytes, C}
 use Rattle.integer.specs.Integer.{integer_read}
 use Rattle.float.specs.Float.{float_read}
-use Rattle.character.specs.Single.{read_by}
+use Rattle.character.specs.Single.{char_read, byte_read}
 use Rattle.string.specs.String.{string_read}
-use Rattle.dispatch.specs.Entries.{starts_float, number_entry, byte_entry, entry_by, entry_for, chosen_entry}
-use Rattle.literal.specs.Readings.{number_read, byte_or_string_read, any_by, any_read, entry_read, quote_in, string_kind_in}
+use Rattle.dispatch.specs.Entries.{starts_float, number_entry, byte_entry, entry_by, entry_for, chosen_entry, entry_code}
+use Rattle.literal.specs.Readings.{number_read, byte_or_string_read, any_by, any_read, entry_read}
 use Rattle.literal.proofs.Entries.{by_code}
 
--- what the code calls for an entry from 1 to 9
+-- what the code calls for an entry from 1 to 8; any other is none, as 9
 unfoldable pub by_entry : ℕ → List ℕ → Outcome
 by_entry e s =
     cond (eqb e 1) (bool_read s)
     (cond (eqb e 2) (integer_read s)
     (cond (eqb e 3) (float_read s)
-    (cond (eqb e 4 || eqb e 6) (read_by (quote_in e) s)
-    (cond (eqb e 9) (refused 3 none)
-    (string_read (string_kind_in e) s)))))
+    (cond (eqb e 4) (char_read s)
+    (cond (eqb e 5) (string_read Text s)
+    (cond (eqb e 6) (byte_read s)
+    (cond (eqb e 7) (string_read Bytes s)
+    (cond (eqb e 8) (string_read C s)
+    (refused 3 none))))))))
 
 -- two choices by one test
 both : {A B : Type 0} (R : A → B → Type 0) (t : Bool) {x y : A} {u v : B} → R x u → R y v → R (cond t x y) (cond t u v)
@@ -42,11 +49,11 @@ module _ (s : List ℕ) where
   number_chosen = both Is (starts_float s) refl refl
 
   b_chosen : Is (byte_or_string_read s) (byte_entry s)
-  unfolding byte_or_string_read byte_entry by_entry quote_in string_kind_in
+  unfolding byte_or_string_read byte_entry by_entry
   b_chosen = both Is (eqb (get_or s 1 0) 39) refl (both Is (eqb (get_or s 1 0) 114 || eqb (get_or s 1 0) 34) refl refl)
 
   by_chosen : (b : ℕ) → Is (any_by b s) (entry_by b s)
-  unfolding any_by entry_by by_entry quote_in string_kind_in
+  unfolding any_by entry_by by_entry
   by_chosen b =
       both Is (dec_digit b) number_chosen
       (both Is (eqb b 102 || eqb b 116) refl
@@ -60,9 +67,39 @@ unfolding any_read entry_for by_entry integer_read
 any_chosen [] = refl
 any_chosen (b ∷ s) = by_chosen (b ∷ s) b
 
--- THE LAW: of each entry code
+-- of each entry code
 pub chosen_read : (code : ℕ) (s : List ℕ) → code ≤ 8 → entry_read code s ≡ by_entry (chosen_entry code s) s
-unfolding entry_read chosen_entry by_entry quote_in string_kind_in
+unfolding entry_read chosen_entry by_entry
 chosen_read zero s l = any_chosen s
 chosen_read (suc code) s l =
     by_code (λ c. entry_read c s ≡ by_entry (chosen_entry c s) s) refl refl refl refl refl refl refl refl (suc code) (omega arith) l
+
+-- what the code calls for the kind that was chosen
+abbrev pub by_kind : Option Kind → List ℕ → Outcome
+by_kind None s = refused 3 none
+by_kind (Some kind.Bool) s = bool_read s
+by_kind (Some kind.Integer) s = integer_read s
+by_kind (Some kind.Float) s = float_read s
+by_kind (Some kind.Char) s = char_read s
+by_kind (Some kind.String) s = string_read Text s
+by_kind (Some kind.Byte) s = byte_read s
+by_kind (Some kind.ByteString) s = string_read Bytes s
+by_kind (Some kind.CString) s = string_read C s
+
+of_kind : (k : Option Kind) (s : List ℕ) → by_kind k s ≡ by_entry (entry_code k) s
+unfolding by_entry
+of_kind None s = refl
+of_kind (Some kind.Bool) s = refl
+of_kind (Some kind.Integer) s = refl
+of_kind (Some kind.Float) s = refl
+of_kind (Some kind.Char) s = refl
+of_kind (Some kind.String) s = refl
+of_kind (Some kind.Byte) s = refl
+of_kind (Some kind.ByteString) s = refl
+of_kind (Some kind.CString) s = refl
+
+-- THE LAW: an entry code reads a text as the kind that is chosen for it
+pub kind_read : (k : Option Kind) (code : ℕ) (s : List ℕ) → code ≤ 8 → entry_code k ≡ chosen_entry (min code 9) s → by_kind k s ≡ entry_read code s
+kind_read k code s l e =
+    let c : min code 9 ≡ code = omega arith in
+    of_kind k s ∙ ap (λ (n : ℕ). by_entry n s) (e ∙ ap (λ (n : ℕ). chosen_entry n s) c) ∙ sym (chosen_read code s l)

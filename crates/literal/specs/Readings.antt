@@ -6,10 +6,12 @@ use Rattle.parse.specs.Sets.{dec_digit}
 use Rattle.boolean.specs.Bool.{bool_read}
 use Rattle.escape.specs.declared.Allowed.{Allowed}
 use Rattle.escape.specs.declared.Allowed.TheVariants.{Text, Bytes, C}
-use Rattle.integer.specs.Integer.{integer_read}
-use Rattle.float.specs.Float.{float_read}
+use Rattle.err.specs.declared.Kind.{Kind}
+use Rattle.err.specs.declared.Kind.TheVariants as kind
 use Rattle.character_quote.specs.declared.Quote.{Quote}
 use Rattle.character_quote.specs.declared.Quote.TheVariants.{Char, Byte}
+use Rattle.integer.specs.Integer.{integer_read}
+use Rattle.float.specs.Float.{float_read}
 use Rattle.character.specs.Single.{char_read, byte_read}
 use Rattle.string.specs.String.{string_read}
 use Rattle.dispatch.specs.Entries.{starts_float}
@@ -65,13 +67,26 @@ read_at code s =
     (cond (eqb (text_fault s) 0) (entry_read code s) (refused (text_fault s) none))
     (refused 42 none)
 
--- ---- for contracts between functions, no sentence of a document; law `chosen_read` joins `quote_in`, `string_kind_in` and the entry chosen (dispatch) to the
--- above
+-- ---- for contracts between functions, no sentence of a document; law `kind_read` joins them to the above
 
--- char or byte, by entry 4 or 6
-unfoldable pub quote_in : ℕ → Quote
-quote_in e = cond (eqb e 4) Char Byte
+-- what differs between a char and a byte, by the kind
+abbrev pub quote_in : Kind → Quote
+quote_in kind.Bool = Char
+quote_in kind.Integer = Char
+quote_in kind.Float = Char
+quote_in kind.Char = Char
+quote_in kind.String = Char
+quote_in kind.Byte = Byte
+quote_in kind.ByteString = Char
+quote_in kind.CString = Char
 
--- string, byte string or C string, by entry 5, 7 or 8
-unfoldable pub string_kind_in : ℕ → Allowed
-string_kind_in e = cond (eqb e 5) Text (cond (eqb e 7) Bytes C)
+-- what the escapes of a string, byte string or C string allow, by the kind
+abbrev pub allowed_in : Kind → Allowed
+allowed_in kind.Bool = Text
+allowed_in kind.Integer = Text
+allowed_in kind.Float = Text
+allowed_in kind.Char = Text
+allowed_in kind.String = Text
+allowed_in kind.Byte = Text
+allowed_in kind.ByteString = Bytes
+allowed_in kind.CString = C

@@ -6,16 +6,6 @@ use Rattle.err.specs.Reading.{values_of_string}
 use Rattle.err.specs.Counts.{Counts, no_counts, integer_count, float_counts}
 use Rattle.err.specs.declared.StringLit.{StringLit}
 
--- 01: "A reading holds kind, start of suffix": the kind of an accepted one, else 0; serves contracts between functions
-abbrev pub kind_in : Outcome → ℕ
-kind_in (refused n p) = 0
-kind_in (accepted k e vs) = k
-
--- the start of a reading's suffix; 0 of a refused one
-abbrev pub suffix_in : Outcome → ℕ
-suffix_in (refused n p) = 0
-suffix_in (accepted k e vs) = e
-
 -- 1 and the two offsets of a span, or three zeros where there is none
 abbrev pub place_numbers : Place → List ℕ
 place_numbers none = 0 ∷ 0 ∷ 0 ∷ []

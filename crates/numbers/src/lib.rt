@@ -1,15 +1,15 @@
 // Results in numbers, as C gets them: 100,000 plus a refusal's number, and what a reading holds.
 #![tactic(auto)]
 
-ghost use Rattle.std.specs.Prelude.{◌≡◌, ◌+◌};
+ghost use Rattle.std.specs.Prelude.{◌≡◌, ◌+◌, Ok};
 ghost use Rattle.err.specs.Numbers.{number_of};
 ghost use Rattle.err.specs.Outcome.{refused, none};
-ghost use Rattle.err.specs.Reading.{place_of, outcome_of};
+ghost use Rattle.err.specs.Reading.{refusal_of, outcome_of, kind_in, suffix_in};
 ghost use Rattle.err.specs.Counts.{no_counts, counts_of};
 ghost use Rattle.err_added.specs.Numbers.{added_number};
-ghost use Rattle.numbers.specs.Numbers.{kind_in, suffix_in, truth_number, string_numbers, reading_numbers};
+ghost use Rattle.numbers.specs.Numbers.{string_numbers, reading_numbers};
 
-use err::{FloatLit, Hashes, IntegerLit, ParseErrorKind, Reading, Span, StringLit};
+use err::{FloatLit, IntegerLit, Literal, ParseError, ParseErrorKind, Reading, StringLit};
 use err_added::AddedErrorKind;
 
 // 100,000 plus the refusal number.
@@ -24,15 +24,8 @@ pub fn kind_of(found: Reading) -> u8
     ensures { result ≡ kind_in (outcome_of found) }
 {
     match found {
-        Reading::Refused(_, _) => 0,
-        Reading::Bool(_) => 1,
-        Reading::Integer(_) => 2,
-        Reading::Float(_) => 3,
-        Reading::Char(_) => 4,
-        Reading::String(_) => 5,
-        Reading::Byte(_) => 6,
-        Reading::ByteString(_) => 7,
-        Reading::CString(_) => 8,
+        Ok(lit) => lit.kind().code(),
+        Err(_) => 0,
     }
 }
 
@@ -41,25 +34,19 @@ pub fn suffix_start(found: Reading) -> usize
     ensures { result ≡ suffix_in (outcome_of found) }
 {
     match found {
-        Reading::Refused(_, _) => 0,
-        Reading::Bool(lit) => lit.end,
-        Reading::Integer(lit) => lit.end_main_part,
-        Reading::Float(lit) => lit.end_number_part,
-        Reading::Char(lit) => lit.start_suffix,
-        Reading::String(lit) => lit.start_suffix,
-        Reading::Byte(lit) => lit.start_suffix,
-        Reading::ByteString(lit) => lit.start_suffix,
-        Reading::CString(lit) => lit.start_suffix,
+        Ok(lit) => lit.start_suffix(),
+        _ => 0,
     }
 }
 
 // A refusal in eight numbers: 0, its number and its span.
-fn span_numbers(number: u64, span: Span) -> [u64; 8]
-    ensures { result ≡ reading_numbers (refused number (place_of span)) no_counts }
+fn error_numbers(error: ParseError) -> [u64; 8]
+    ensures { result ≡ reading_numbers (refusal_of error) no_counts }
 {
-    match span {
-        Span::Nowhere => [0, number, 0, 0, 0, 0, 0, 0],
-        Span::Between(a, e) => [0, number, 1, a as u64, e as u64, 0, 0, 0],
+    let number = u64::from(err::number(error.kind));
+    match error.span {
+        None => [0, number, 0, 0, 0, 0, 0, 0],
+        Some(span) => [0, number, 1, span.start as u64, span.end as u64, 0, 0, 0],
     }
 }
 
@@ -67,43 +54,35 @@ fn span_numbers(number: u64, span: Span) -> [u64; 8]
 pub fn added_numbers(kind: AddedErrorKind) -> [u64; 8]
     ensures { result ≡ reading_numbers (refused (added_number kind) none) no_counts }
 {
-    [0, err_added::number(kind) as u64, 0, 0, 0, 0, 0, 0]
+    [0, u64::from(err_added::number(kind)), 0, 0, 0, 0, 0, 0]
 }
 
 // A literal of kind 5, 7 or 8 in eight numbers.
 fn string_numbers(kind: u64, lit: StringLit) -> [u64; 8]
     ensures { result ≡ string_numbers kind lit }
 {
-    let hashes = lit.hashes;
     let n = lit.value_len as u64;
     let start = lit.start_suffix as u64;
-    match hashes {
-        Hashes::NotRaw => [kind, start, 0, 0, n, 0, 0, 0],
-        Hashes::Raw(h) => [kind, start, 1, h as u64, n, 0, 0, 0],
+    match lit.hashes {
+        None => [kind, start, 0, 0, n, 0, 0, 0],
+        Some(h) => [kind, start, 1, u64::from(h), n, 0, 0, 0],
     }
-}
-
-// 1 or 0.
-fn truth(value: bool) -> u64
-    ensures { result ≡ truth_number value }
-{
-    if value { 1 } else { 0 }
 }
 
 // An integer in eight numbers.
 fn integer_numbers(lit: IntegerLit) -> [u64; 8]
-    ensures { result ≡ reading_numbers (outcome_of (Reading.Integer lit)) (counts_of (Reading.Integer lit)) }
+    ensures { result ≡ reading_numbers (outcome_of (Ok (Literal.Integer lit))) (counts_of (Ok (Literal.Integer lit))) }
 {
     let base = lit.base;
     let start = lit.start_main_part as u64;
     let end = lit.end_main_part as u64;
     let digits = lit.digits as u64;
-    [2, end, base.value() as u64, start, end, digits, 0, 0]
+    [2, end, u64::from(base.value()), start, end, digits, 0, 0]
 }
 
 // A float in eight numbers.
 fn float_numbers(lit: FloatLit) -> [u64; 8]
-    ensures { result ≡ reading_numbers (outcome_of (Reading.Float lit)) (counts_of (Reading.Float lit)) }
+    ensures { result ≡ reading_numbers (outcome_of (Ok (Literal.Float lit))) (counts_of (Ok (Literal.Float lit))) }
 {
     let end = lit.end_number_part as u64;
     [
@@ -123,14 +102,14 @@ pub fn reading_numbers(found: Reading) -> [u64; 8]
     ensures { result ≡ reading_numbers (outcome_of found) (counts_of found) }
 {
     match found {
-        Reading::Refused(kind, span) => span_numbers(err::number(kind) as u64, span),
-        Reading::Bool(l) => [1, l.end as u64, truth(l.value), 0, 0, 0, 0, 0],
-        Reading::Integer(l) => integer_numbers(l),
-        Reading::Float(l) => float_numbers(l),
-        Reading::Char(l) => [4, l.start_suffix as u64, l.value as u64, 0, 0, 0, 0, 0],
-        Reading::String(l) => string_numbers(5, l),
-        Reading::Byte(l) => [6, l.start_suffix as u64, l.value as u64, 0, 0, 0, 0, 0],
-        Reading::ByteString(l) => string_numbers(7, l),
-        Reading::CString(l) => string_numbers(8, l),
+        Err(error) => error_numbers(error),
+        Ok(Literal::Bool(l)) => [1, l.end as u64, u64::from(l.value), 0, 0, 0, 0, 0],
+        Ok(Literal::Integer(l)) => integer_numbers(l),
+        Ok(Literal::Float(l)) => float_numbers(l),
+        Ok(Literal::Char(l)) => [4, l.start_suffix as u64, u64::from(l.value), 0, 0, 0, 0, 0],
+        Ok(Literal::String(l)) => string_numbers(5, l),
+        Ok(Literal::Byte(l)) => [6, l.start_suffix as u64, u64::from(l.value), 0, 0, 0, 0, 0],
+        Ok(Literal::ByteString(l)) => string_numbers(7, l),
+        Ok(Literal::CString(l)) => string_numbers(8, l),
     }
 }

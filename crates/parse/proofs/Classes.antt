@@ -1,7 +1,7 @@
 -- What a byte's class says of the byte: sets that are defined by class, as ranges of bytes. By a test of each byte below 128; all others have one class.
 -- Assumes nothing.
 use mathlib.Core.Path.{◌≡◌, refl, sym, ◌∙◌}
-use mathlib.Core.Bool.{Bool, true, false, ◌&&◌, ◌||◌, and-false, or-true}
+use mathlib.Core.Bool.{Bool, true, false, cond, ◌&&◌, ◌||◌, and-false, or-true}
 use mathlib.Core.Logic.{◌⊎◌, inl, inr, ⊎_map}
 use Prim.Native.Nat.{ℕ, ◌+◌, ◌-◌, ◌≤◌, ◌<◌}
 use native.Mathlib.Omega.{arith}
@@ -10,11 +10,8 @@ use borrow.Author.Tests.{ltb-true, leb-true, eqb-true, lt-ltb, le-ltb, le-leb, l
 use Rattle.scan.proofs.Cases.{by_lt, cond_lt, clash}
 use Rattle.scan.proofs.Below.{every_below, below, alike, agreed}
 use Rattle.parse.specs.Class.{class_of, within}
-use Rattle.parse.specs.Sets.{in_class, in_set, digit, suffix_rest, blank, dec_digit, hex_digit_of}
-use Rattle.parse.specs.declared.ClassSet.{ClassSet}
-use Rattle.parse.specs.declared.ClassSet.TheVariants.{SuffixRest, Blanks}
-use Rattle.parse.specs.declared.HexDigit.{HexDigit}
-use Rattle.parse.specs.declared.HexDigit.TheVariants.{Value}
+use Rattle.parse.specs.Sets.{digit, blank, dec_digit, hex_digit_of}
+use Rattle.std.specs.Prelude.{Option, Some}
 
 -- ---- tests
 
@@ -58,6 +55,15 @@ pub class_lower_hex : (b : ℕ) → 97 ≤ b → b ≤ 102 → class_of b ≡ b 
 unfolding class_of
 class_lower_hex b h g = class_from (λ b. b - 87) 97 6 tt b h (omega arith)
 
+-- below `0`, and between `Z` and `a`
+pub class_low : (b : ℕ) → b < 48 → class_of b ≡ cond (eqb b 32 || (eqb b 9 || eqb b 10)) 18 19
+unfolding class_of
+class_low b h = class_from (λ b. cond (eqb b 32 || (eqb b 9 || eqb b 10)) 18 19) 0 48 tt b (omega arith) (omega arith)
+
+pub class_middle : (b : ℕ) → 90 < b → b < 97 → class_of b ≡ cond (eqb b 95) 16 19
+unfolding class_of
+class_middle b h g = class_from (λ b. cond (eqb b 95) 16 19) 91 6 tt b (omega arith) (omega arith)
+
 pub class_above : (b : ℕ) → 128 ≤ b → class_of b ≡ 20
 unfolding class_of
 class_above b h =
@@ -74,12 +80,6 @@ class_underscore = refl
 pub class_underscore_is : (b : ℕ) → eqb (class_of b) 16 ≡ eqb b 95
 unfolding class_of
 class_underscore_is = everywhere (λ b. eqb (class_of b) 16) (λ b. eqb b 95) tt (λ b h. rw (class_above b h, ne_eqb b 95 (omega arith)))
-
--- a test of a byte by a set is a test of its class
-pub set_class : (set : ClassSet) (b : ℕ) → in_set set b ≡ in_class set (class_of b)
-unfolding suffix_rest blank
-set_class SuffixRest b = refl
-set_class Blanks b = refl
 
 -- ---- decimal digits
 
@@ -149,9 +149,9 @@ hex_is =
     everywhere (λ b. ltb (class_of b) 16) (λ b. within 48 57 b || (within 97 102 b || within 65 70 b)) tt
     (λ b h. rw (class_above b h, within_above 48 57 b (omega arith), within_above 97 102 b (omega arith), within_above 65 70 b (omega arith)))
 
-pub hex_class : (b v : ℕ) → hex_digit_of b ≡ Value v → (v ≡ class_of b) × (v < 16)
+pub hex_class : (b v : ℕ) → hex_digit_of b ≡ Some v → (v ≡ class_of b) × (v < 16)
 unfolding hex_digit_of
 hex_class b v =
-    cond_lt (λ (h : HexDigit). h ≡ Value v → (v ≡ class_of b) × (v < 16)) (class_of b) 16
+    cond_lt (λ (h : Option ℕ). h ≡ Some v → (v ≡ class_of b) × (v < 16)) (class_of b) 16
     (λ l e. let q : v ≡ class_of b = cc in (q, omega arith))
     (λ l e. let z : ◌≡◌ {A = ℕ} 0 1 = cc in absurd (omega arith))

@@ -1,39 +1,37 @@
 -- Sets of bytes, by class. They take the place of litrs's digit closures and character tests.
 -- Assumes nothing.
-use Rattle.std.specs.Prelude.{ℕ, Bool, cond, ◌||◌, List, ltb, eqb, get_or}
+use Rattle.std.specs.Prelude.{ℕ, Bool, cond, ◌||◌, List, ltb, eqb, get_or, Option, Some, None}
 use Rattle.parse.specs.Class.{class_of}
-use Rattle.parse.specs.declared.ClassSet.{ClassSet}
-use Rattle.parse.specs.declared.ClassSet.TheVariants.{SuffixRest, Blanks}
-use Rattle.parse.specs.declared.HexDigit.{HexDigit}
-use Rattle.parse.specs.declared.HexDigit.TheVariants.{Value, NotHex}
-
--- which classes a set has: ASCII letters, digits, `_` and all above 127 (01, Suffix and digits: "a later ASCII character other than letter, digit or `_` is
--- 39. Non-ASCII always passes"); space, tab and LF (01, Escapes: a dropped line break drops "all following spaces, tabs and LFs")
-abbrev pub in_class : ClassSet → ℕ → Bool
-in_class SuffixRest c = eqb c 20 || ltb c 18
-in_class Blanks c = eqb c 18
+use Rattle.parse.specs.declared.SuffixRest.{SuffixRest}
+use Rattle.parse.specs.declared.Blanks.{Blanks}
 
 -- a digit below a base, or `_` (litrs's is_valid_digit)
 unfoldable pub digit : ℕ → ℕ → Bool
 digit base b = eqb (class_of b) 16 || ltb (class_of b) base
 
+-- ASCII letters, digits, `_` and all above 127 (01, Suffix and digits: "a later ASCII character other than letter, digit or `_` is 39. Non-ASCII always
+-- passes")
 unfoldable pub suffix_rest : ℕ → Bool
-suffix_rest b = in_class SuffixRest (class_of b)
+suffix_rest b = eqb (class_of b) 20 || ltb (class_of b) 18
 
+-- space, tab and LF (01, Escapes: a dropped line break drops "all following spaces, tabs and LFs")
 unfoldable pub blank : ℕ → Bool
-blank b = in_class Blanks (class_of b)
+blank b = eqb (class_of b) 18
 
-abbrev pub in_set : ClassSet → ℕ → Bool
-in_set SuffixRest = suffix_rest
-in_set Blanks = blank
+-- the sets as the code has them
+abbrev pub in_suffix_rest : SuffixRest → ℕ → Bool
+in_suffix_rest set = suffix_rest
+
+abbrev pub in_blanks : Blanks → ℕ → Bool
+in_blanks set = blank
 
 -- a decimal digit, `0` to `9`
 unfoldable pub dec_digit : ℕ → Bool
 dec_digit b = ltb (class_of b) 10
 
 -- litrs's hex_digit_value
-unfoldable pub hex_digit_of : ℕ → HexDigit
-hex_digit_of b = cond (ltb (class_of b) 16) (Value (class_of b)) NotHex
+unfoldable pub hex_digit_of : ℕ → Option ℕ
+hex_digit_of b = cond (ltb (class_of b) 16) (Some (class_of b)) None
 
 -- `e` or `E` stands at an offset (01, Integers: "a leading e or E"; Floats: an exponent's first byte)
 -- 101 is `e`, 69 is `E`

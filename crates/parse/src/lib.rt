@@ -2,25 +2,26 @@
 #![tactic(auto)]
 
 ghost use Rattle.std.specs.Prelude.{◌≡◌, ◌<◌};
-ghost use Rattle.scan.specs.Run.{run};
 ghost use Rattle.parse.specs.Class.{class_of};
-ghost use Rattle.parse.specs.Sets.{dec_digit, in_set, in_class, hex_digit_of, starts_e};
+ghost use Rattle.parse.specs.Sets.{dec_digit, in_suffix_rest, in_blanks, hex_digit_of, starts_e};
 ghost use Rattle.parse.specs.Digits.{DigitScan};
 
+use scan::ByteSet;
+
 // Below `0`.
+#[tactic(auto, using(crate::proofs::Classes::class_low))]
 fn low_class(b: u8) -> u8
     requires { b < 48 }
     ensures { result ≡ class_of b }
 {
     match b {
-        b' ' => 18,
-        b'\t' => 18,
-        b'\n' => 18,
+        b' ' | b'\t' | b'\n' => 18,
         _ => 19,
     }
 }
 
 // Above `Z` and below `a`.
+#[tactic(auto, using(crate::proofs::Classes::class_middle))]
 fn middle_class(b: u8) -> u8
     requires { (90 < b) × (b < 97) }
     ensures { result ≡ class_of b }
@@ -72,83 +73,68 @@ pub fn digit_run(s: &[u8], base: u8) -> DigitRun
     ensures { DigitScan base s.now result }
 {
     let mut digits = 0;
-    let mut i = 0;
-    while i < s.len() {
-        let class = class_of(s[i]);
+    for (i, b) in s.iter().enumerate() {
+        let class = class_of(*b);
         if class < base {
             digits += 1;
         } else if class != 16 {
             return DigitRun { end: i, digits };
         }
-        i += 1;
     }
-    DigitRun { end: i, digits }
+    DigitRun {
+        end: s.len(),
+        digits,
+    }
 }
 
-// A set of bytes that a scan passes over: what may follow in a suffix; what a dropped line break drops.
+// What may follow in a suffix.
 #[derive(Clone, Copy)]
-pub enum ClassSet {
-    SuffixRest,
-    Blanks,
-}
+pub struct SuffixRest;
 
-// Whether a class is one of the set's.
-fn is_in(class: u8, set: ClassSet) -> bool
-    ensures { result ≡ in_class set class }
-{
-    match set {
-        ClassSet::SuffixRest => if class == 20 { true } else { class < 18 },
-        ClassSet::Blanks => class == 18,
+impl ByteSet for SuffixRest {
+    ghost holds = { in_suffix_rest };
+
+    #[tactic(auto, unfolding(crate::specs::Sets::suffix_rest))]
+    fn contains(self, b: u8) -> bool {
+        let class = class_of(b);
+        class == 20 || class < 18
     }
 }
 
-// How many bytes at the front are in the set.
-pub fn run_len(s: &[u8], set: ClassSet) -> usize
-    ensures { result ≡ run (in_set set) s.now }
-{
-    let mut i = 0;
-    while i < s.len() {
-        if !is_in(class_of(s[i]), set) {
-            return i;
-        }
-        i += 1;
-    }
-    i
-}
-
-// A hex digit's value, or that a byte is none.
+// What a dropped line break drops.
 #[derive(Clone, Copy)]
-pub enum HexDigit {
-    Value(u8),
-    NotHex,
+pub struct Blanks;
+
+impl ByteSet for Blanks {
+    ghost holds = { in_blanks };
+
+    #[tactic(auto, unfolding(crate::specs::Sets::blank))]
+    fn contains(self, b: u8) -> bool {
+        class_of(b) == 18
+    }
 }
 
 // litrs's `hex_digit_value`.
-pub fn hex_digit_value(digit: u8) -> HexDigit
+#[tactic(auto, unfolding(crate::specs::Sets::hex_digit_of))]
+pub fn hex_digit_value(digit: u8) -> Option<u8>
     ensures { result ≡ hex_digit_of digit }
 {
     let class = class_of(digit);
-    if class < 16 {
-        HexDigit::Value(class)
-    } else {
-        HexDigit::NotHex
-    }
+    if class < 16 { Some(class) } else { None }
 }
 
 // Whether a byte is a decimal digit.
+#[tactic(auto, using(crate::proofs::Classes::dec_digit_is))]
 pub fn is_decimal(b: u8) -> bool
     ensures { result ≡ dec_digit b }
 {
-    if b < b'0' {
-        return false;
-    }
-    b <= b'9'
+    b.is_ascii_digit()
 }
 
 // Whether `e` or `E` stands at an offset.
+#[tactic(auto, unfolding(crate::specs::Sets::starts_e))]
 pub fn has_e(s: &[u8], at: usize) -> bool
     ensures { result ≡ starts_e s.now at }
 {
-    let b = scan::byte_at(s, at);
-    if b == b'e' { true } else { b == b'E' }
+    matches!(s.get(at), Some(b'e' | b'E'))
 }

@@ -12,7 +12,7 @@ use Rattle.scan.specs.Run.{run}
 use Rattle.scan.specs.Sets.{only}
 use Rattle.scan.proofs.Runs as runs
 use Rattle.escape.specs.declared.Allowed.{Allowed}
-use Rattle.body_plain.proofs.Blocks as blocks
+use Rattle.blocks.proofs.Blocks as blocks
 use Rattle.raw.specs.Scan.{passes, flags, raw_run}
 
 -- a flag is 1 where its test is true

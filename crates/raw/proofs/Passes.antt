@@ -10,9 +10,10 @@ use borrow.Author.Tests.{eqb-true, eqb-false, eq-eqb, ne_eqb}
 use lib.Dec.{eqb}
 use lib.ListN.{length, get_or, take, drop}
 use lib.Seq.{drop-cons, get_or-drop}
-use Rattle.scan.specs.Bit.{bit}
+use Rattle.std.specs.Int.{from_bool}
 use Rattle.scan.specs.Run.{run}
 use Rattle.scan.specs.Sets.{only}
+use Rattle.scan.proofs.Bytes.{byte_inside}
 use Rattle.scan.proofs.Cases.{by_lt, clash}
 use Rattle.scan.proofs.Runs.{run_each}
 use Rattle.escape.specs.Allows.{unicode, allow_nul}
@@ -20,16 +21,14 @@ use Rattle.escape.specs.declared.Allowed.{Allowed}
 use Rattle.escape.specs.declared.Unescaped.TheVariants.{Byte}
 use Rattle.body.specs.Packed.{Stopped}
 use Rattle.body_plain.specs.Plain.{plain_byte}
-use Rattle.body.specs.Step.{close, piece, end_of}
-use Rattle.body.specs.Body.{Measures}
-use Rattle.body.specs.declared.Measured.{Measured}
+use Rattle.body.specs.Step.{piece}
 use Rattle.body.proofs.Steps.{is_plain}
 use Rattle.body.proofs.Bodies.{Passed}
 use Rattle.body.proofs.Runs.{plain_stops}
-use Rattle.raw.specs.Raw.{raw_step_of, raw_body}
+use Rattle.raw.specs.Raw.{raw_step_of}
 use Rattle.raw.specs.Scan.{raw_plain, closing_byte, passes, raw_run}
 use Rattle.raw.proofs.Steps as steps
-use Rattle.raw.proofs.Bodies.{raw_more, raw_measures}
+use Rattle.raw.proofs.Bodies.{raw_more}
 use Rattle.raw.proofs.Flags.{scan_in, scan_past, scan_more, scan_stop}
 
 -- ---- the two tests of a byte
@@ -70,22 +69,22 @@ stops_plain k m b far t e = go (raw_plain k b) (rw (ne_eqb b 34 e) at t)
     go false e = refl
 
 -- the tests of a quote and of the mark as a sum
-pub both : (k : Allowed) (m b far : ℕ) → bit (eqb b 34) + bit (eqb far m) ≡ 2 → passes k m b far ≡ false
-unfolding bit passes
+pub both : (k : Allowed) (m b far : ℕ) → from_bool (eqb b 34) + from_bool (eqb far m) ≡ 2 → passes k m b far ≡ false
+unfolding passes
 both k m b far = go (raw_plain k b) (eqb b 34) (eqb far m)
   where
-    go : (t p q : Bool) → cond p 1 0 + cond q 1 0 ≡ 2 → cond t (not (p && q)) false ≡ false
+    go : (t p q : Bool) → from_bool p + from_bool q ≡ 2 → cond t (not (p && q)) false ≡ false
     go true true true e = refl
     go true true false e = absurd (omega arith)
     go true false true e = absurd (omega arith)
     go true false false e = absurd (omega arith)
     go false p q e = refl
 
-pub not_both : (k : Allowed) (m b far : ℕ) → (bit (eqb b 34) + bit (eqb far m) ≡ 2 → ⊥) → passes k m b far ≡ raw_plain k b
-unfolding bit passes
+pub not_both : (k : Allowed) (m b far : ℕ) → (from_bool (eqb b 34) + from_bool (eqb far m) ≡ 2 → ⊥) → passes k m b far ≡ raw_plain k b
+unfolding passes
 not_both k m b far = go (raw_plain k b) (eqb b 34) (eqb far m)
   where
-    go : (t p q : Bool) → (cond p 1 0 + cond q 1 0 ≡ 2 → ⊥) → cond t (not (p && q)) false ≡ t
+    go : (t p q : Bool) → (from_bool p + from_bool q ≡ 2 → ⊥) → cond t (not (p && q)) false ≡ t
     go true true true e = absurd (e (omega arith))
     go true true false e = refl
     go true false q e = refl
@@ -166,13 +165,13 @@ module _ (k : Allowed) (h : ℕ) (s : List ℕ) where
       let there : i + raw_run k h (closing_byte h) (drop i s) ≡ e = omega arith in
       rw there at (passed_by (raw_run k h (closing_byte h) (drop i s)) i (omega arith) q)
 
-  -- and is measured there, where a quote stands with h hashes after it
-  pub scan_closes : (i e : ℕ) → e ≡ i + raw_run k h (closing_byte h) (drop i s) → At i → e < length s → get_or s e 0 ≡ 34 → h ≤ run (only 35) (drop (e + 1) s)
-      → (m : Measured) → m.at ≡ e → m.len ≡ e → end_of m.end ≡ close → Measures (raw_body k h s) m
-  scan_closes i e g q l quote hashes =
-      raw_measures k h (passed_scan i e g q) close (sym (steps.raw_close k h s e l quote (run (only 35) (drop (e + 1) s)) refl hashes))
+  -- the body ends where a quote stands with h hashes after it
+  pub scan_closes : (e : ℕ) → get_or s e 0 ≡ 34 → h ≤ run (only 35) (drop (e + 1) s) → Stopped (raw_step_of k h (drop e s))
+  scan_closes e quote hashes =
+      let l = byte_inside s e 34 quote (omega arith) in
+      rw (← (steps.raw_close k h s e l quote (run (only 35) (drop (e + 1) s)) refl hashes)) tt
 
-  -- or ends there, where no quote stands
+  -- or where no quote stands
   pub scan_ends : (i e : ℕ) → e ≡ i + raw_run k h (closing_byte h) (drop i s) → (get_or s e 0 ≡ 34 → ⊥) → Stopped (raw_step_of k h (drop e s))
   scan_ends i e g quote =
       by_lt e (length s)

@@ -11,27 +11,27 @@ ghost use Rattle.body.specs.Quote.{quote_of};
 ghost use Rattle.raw.specs.Raw.{raw_step_of, raw_body, raw_of};
 ghost use Rattle.raw.specs.Scan.{raw_plain, closing_byte, passes, flags, raw_run};
 
-use body::{Ending, Measured, Quoted, Step};
-use err::{Hashes, ParseErrorKind, Span};
+use body::{Ending, Measured, Step};
+use err::{ParseError, ParseErrorKind, StringLit};
 use escape::{Allowed, Unescaped};
-use scan::ByteSet;
+use scan::Only;
 
 // What stands at i of a raw body with h hashes.
 fn raw_step(s: &[u8], i: usize, h: usize, k: Allowed) -> Step
     ensures { next_of result ≡ raw_step_of k h (drop i s.now) }
 {
     if s.len() <= i {
-        return Step::Stop(Ending::Bad(ParseErrorKind::UnterminatedRawString, Span::Nowhere));
+        return Err(err::perr_nowhere(ParseErrorKind::UnterminatedRawString));
     }
     let b = s[i];
     if b != b'"' {
         return body::plain(b, k);
     }
     let next = i + 1;
-    if h <= scan::run_len(&s[next..], ByteSet::Only(b'#')) {
-        return Step::Stop(Ending::Close);
+    if h <= scan::run_len(&s[next..], Only(b'#')) {
+        return Ok(None);
     }
-    Step::Piece(Unescaped::Byte(b'"'), 1)
+    Ok(Some((Unescaped::Byte(b'"'), 1)))
 }
 
 // Whether h hashes stand at an offset.
@@ -42,27 +42,21 @@ fn has_hashes(s: &[u8], from: usize, h: usize) -> bool
     if s.len() - from < h {
         return false;
     }
-    let mut j = 0;
-    while j < h {
-        if s[from + j] != b'#' {
-            return false;
-        }
-        j += 1;
-    }
-    true
+    let end = from + h;
+    s[from..end].iter().all(|b| *b == b'#')
 }
 
-// Why a raw body ends where no piece is: by litrs's step.
+// Why a raw body ends where no piece is: at its closing quote, as almost all do, or by litrs's step.
 fn raw_ending_at(s: &[u8], at: usize, h: usize, k: Allowed) -> Ending
     requires { Stopped (raw_step_of k h (drop at s.now)) }
     ensures { stop (end_of result) ≡ raw_step_of k h (drop at s.now) }
 {
-    let next = raw_step(s, at, h, k);
-    // cannot arise: the step is none that goes on
-    let Step::Stop(why) = next else {
-        return Ending::Close;
-    };
-    why
+    if scan::byte_at(s, at) == b'"' {
+        return Ok(());
+    }
+    // the step has no piece
+    raw_step(s, at, h, k)?;
+    Ok(())
 }
 
 // What stands h bytes after a quote that closes.
@@ -111,14 +105,12 @@ fn scan_from(s: &[u8], from: usize, h: usize, last: u8, k: Allowed) -> usize
     requires { (from ≤ length s.now) × (h ≤ 255) }
     ensures { result ≡ from + raw_run k h last (drop from s.now) }
 {
-    let mut i = from;
-    while i < s.len() {
+    for i in from..s.len() {
         if !passes_at(s, i, h, last, k) {
             return i;
         }
-        i += 1;
     }
-    i
+    s.len()
 }
 
 // j where the byte at j ends a scan of a block of 64 bytes, else 64. Both tests of a quote are made, and no byte is read
@@ -126,7 +118,7 @@ fn scan_from(s: &[u8], from: usize, h: usize, last: u8, k: Allowed) -> usize
 fn raw_place(b: u8, far: u8, j: u8, last: u8, k: Allowed) -> u8
     ensures { result ≡ cond (passes k last b far) 64 j }
 {
-    if scan::bit(b == b'"') + scan::bit(far == last) == 2 {
+    if u8::from(b == b'"') + u8::from(far == last) == 2 {
         return j;
     }
     if is_raw_plain(b, k) { 64 } else { j }
@@ -138,10 +130,8 @@ fn raw_block_run(s: &[u8], far: &[u8], last: u8, k: Allowed) -> u8
     ensures { result ≡ run (only 1) (flags k last s.now far.now) }
 {
     let mut m: u8 = 64;
-    let mut j: u8 = 0;
-    while j < 64 {
-        m = scan::smaller(m, raw_place(s[j as usize], far[j as usize], j, last, k));
-        j += 1;
+    for j in 0..64u8 {
+        m = m.min(raw_place(s[j as usize], far[j as usize], j, last, k));
     }
     m
 }
@@ -152,6 +142,7 @@ fn raw_end(s: &[u8], from: usize, h: usize, last: u8, k: Allowed) -> usize
     ensures { result ≡ from + raw_run k h last (drop from s.now) }
 {
     let mut i = from;
+    // no `for`: two blocks at once, h bytes apart, and an early exit
     while 64 + h <= s.len() - i {
         let e = i + 64;
         let a = i + h;
@@ -173,44 +164,37 @@ fn measure_raw(s: &[u8], h: usize, k: Allowed) -> Measured
 {
     let last = closing_byte(h);
     let mut i = 0;
+    // no `for`: a turn goes on by a length that it finds
     loop {
         let e = raw_end(s, i, h, last, k);
-        if scan::byte_at(s, e) != b'"' {
+        if scan::byte_at(s, e) != b'"' || has_hashes(s, e + 1, h) {
             return Measured {
                 at: e,
                 len: e,
                 end: raw_ending_at(s, e, h, k),
             };
         }
-        let next = e + 1;
-        if has_hashes(s, next, h) {
-            return Measured {
-                at: e,
-                len: e,
-                end: Ending::Close,
-            };
-        }
-        i = next;
+        i = e + 1;
     }
 }
 
 // A text whose hashes start at an offset, after the `r`.
-pub fn scan_raw_string(text: &[u8], offset: usize, k: Allowed) -> Quoted
+pub fn scan_raw_string(text: &[u8], offset: usize, k: Allowed) -> Result<StringLit, ParseError>
     requires { offset ≤ length text.now }
     ensures { quote_of result ≡ raw_of k offset text.now }
 {
-    let h = scan::run_len(&text[offset..], ByteSet::Only(b'#'));
+    let h = scan::run_len(&text[offset..], Only(b'#'));
     let at = offset + h;
     if at == text.len() {
-        return Quoted::Refused(ParseErrorKind::InvalidLiteral, Span::Nowhere);
+        return Err(err::perr_nowhere(ParseErrorKind::InvalidLiteral));
     }
     if 255 < h {
-        return Quoted::Refused(ParseErrorKind::TooManyHashes, Span::Between(offset, at));
+        return Err(err::perr(ParseErrorKind::TooManyHashes, offset, at));
     }
     if text[at] != b'"' {
-        return Quoted::Refused(ParseErrorKind::InvalidLiteral, Span::Nowhere);
+        return Err(err::perr_nowhere(ParseErrorKind::InvalidLiteral));
     }
     let start = at + 1;
     let m = measure_raw(&text[start..], h, k);
-    body::after_body(text, Hashes::Raw(h as u8), h + 1, start, m)
+    body::after_body(text, Some(h as u8), h + 1, start, m)
 }

@@ -6,7 +6,6 @@ use Prim.Native.Nat.{ℕ, ◌≤◌, ◌<◌}
 use native.Mathlib.Omega.{arith}
 use lib.Dec.{ltb, eqb}
 use borrow.Author.Tests.{ltb-true, ltb-false, eqb-true, eqb-false}
-use Rattle.scan.specs.Bit.{bit}
 
 -- what holds of both values holds of the one that is chosen
 pub cond_in {ℓ ℓ'} : {A : Type ℓ'} (P : A → Type ℓ) (t : Bool) {x y : A} → (t ≡ true → P x) → (t ≡ false → P y) → P (cond t x y)
@@ -27,12 +26,6 @@ by_lt {P = P} m n f g = go (ltb m n) (λ e. f (ltb-true m n e)) (λ e. g (ltb-fa
     go : (t : Bool) → (t ≡ true → P) → (t ≡ false → P) → P
     go true a b = a refl
     go false a b = b refl
-
--- a test as a number
-pub bit_le : {n : ℕ} (t : Bool) → n ≡ bit t → n ≤ 1
-unfolding bit
-bit_le true e = omega arith
-bit_le false e = omega arith
 
 -- a test is not both
 pub clash {ℓ} : {P : Type ℓ} {t : Bool} → t ≡ true → t ≡ false → P

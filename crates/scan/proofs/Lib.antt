@@ -1,8 +1,8 @@
 pub mod Cases
+pub mod Bytes
 pub mod Below
 pub mod Parts
 pub mod Runs
 pub mod Counts
 pub mod Sames
-pub mod Bytes
 pub mod Windows

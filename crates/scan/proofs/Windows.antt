@@ -1,11 +1,13 @@
--- Parts of a text whose bytes all pass a test: of one byte, of two parts one after the other, and what they tell of the run at the front.
+-- Parts of a text whose bytes all pass a test: of one byte, of two parts one after the other, and what they tell of the run at the front; and how a
+-- loop over such a part goes on.
 -- Assumes nothing.
-use mathlib.Core.Path.{◌≡◌, refl, sym, ◌∙◌}
+use mathlib.Core.Path.{◌≡◌, refl, sym, ap, ◌∙◌}
 use mathlib.Core.Bool.{Bool, true, false, ◌&&◌}
 use mathlib.Core.List.{List}
-use Prim.Native.Nat.{ℕ, ◌+◌, ◌≤◌, ◌<◌}
+use Prim.Native.Nat.{ℕ, ◌+◌, ◌-◌, ◌≤◌, ◌<◌}
 use native.Mathlib.Omega.{arith}
-use lib.ListN.{length, get_or, drop}
+use lib.ListN.{length, get_or, take, drop, length-drop}
+use Rattle.std.proofs.lemmas.List.{get_or-take, length-take}
 use lib.Seq.{drop-drop, get_or-drop}
 use borrow.Author.Tests.{le-leb, lt-leb, leb-true}
 use Rattle.scan.specs.Run.{run}
@@ -46,9 +48,17 @@ module _ (p : ℕ → Bool) (s : List ℕ) where
       by_lt (run p (drop (at + a) s)) b (λ g. rw (broken at (a + b) (omega arith), whole at a h, broken (at + a) b g))
       (λ g. rw (whole at (a + b) (omega arith), whole at a h, whole (at + a) b g))
 
-  -- what was found of two bytes, and of two parts one after the other
-  pub all_pair : (at : ℕ) → at + 2 ≤ length s → (p (get_or s at 0) && p (get_or s (at + 1) 0)) ≡ all_in p at 2 s
-  all_pair at h = sym (all_halves at 1 1 ∙ rw (all_one at (omega arith), all_one (at + 1) (omega arith)))
-
+  -- two parts one after the other
   pub all_join : (at a b : ℕ) {t u : Bool} → t ≡ all_in p at a s → u ≡ all_in p (at + a) b s → (t && u) ≡ all_in p at (a + b) s
   all_join at a b e f = rw (e, f) (sym (all_halves at a b))
+
+  -- a loop over the n bytes at an offset: before the first of them, and at the one after the first i
+  pub all_start : (at : ℕ) → true ≡ all_in p at 0 s
+  all_start at = sym (whole at 0 (omega arith))
+
+  pub all_next : (at n i : ℕ) {t u : Bool} → at + n ≤ length s → i < length (take (at + n - at) (drop at s)) → t ≡ all_in p at i s
+      → u ≡ p (get_or (take (at + n - at) (drop at s)) i 0) → (t && u) ≡ all_in p at (i + 1) s
+  all_next at n i l h e f =
+      let inside : i < at + n - at = omega (arith, length-take (at + n - at) (drop at s), length-drop at s) in
+      let byte : get_or (take (at + n - at) (drop at s)) i 0 ≡ get_or s (at + i) 0 = rw get_or-take (get_or-drop at s i 0) in
+      all_join at i 1 e (f ∙ ap p byte ∙ sym (all_one (at + i) (omega arith)))

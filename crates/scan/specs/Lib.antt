@@ -1,5 +1,3 @@
-pub mod Bit
-pub mod Byte
 pub mod Same
 pub mod Run
 pub mod Sets

@@ -1,8 +1,9 @@
 -- Sets of bytes: all but one, one, and the ASCII bytes.
 -- Assumes nothing.
 use Rattle.std.specs.Prelude.{ℕ, Bool, not, eqb, ltb}
-use Rattle.scan.specs.declared.ByteSet.{ByteSet}
-use Rattle.scan.specs.declared.ByteSet.TheVariants.{Except, Only}
+use Rattle.scan.specs.declared.Except.{Except}
+use Rattle.scan.specs.declared.Only.{Only}
+use Rattle.scan.specs.declared.Ascii.{Ascii}
 
 -- any byte but x
 unfoldable pub except : ℕ → ℕ → Bool
@@ -12,10 +13,16 @@ except x b = not (eqb b x)
 unfoldable pub only : ℕ → ℕ → Bool
 only x b = eqb b x
 
-abbrev pub in_set : ByteSet → ℕ → Bool
-in_set (Except x) = except x
-in_set (Only x) = only x
+-- the sets as the code has them
+abbrev pub in_except : Except → ℕ → Bool
+in_except e = except e.0
+
+abbrev pub in_only : Only → ℕ → Bool
+in_only e = only e.0
 
 -- RFC 3629, section 3: a byte 0xxxxxxx is a character of its own, an ASCII one
 unfoldable pub ascii : ℕ → Bool
 ascii b = ltb b 128
+
+abbrev pub in_ascii : Ascii → ℕ → Bool
+in_ascii e = ascii

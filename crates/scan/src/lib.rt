@@ -1,89 +1,75 @@
-// Reading a byte or nothing, comparing two texts, tests as numbers, whether some bytes are ASCII, and counting loops over a set of bytes.
+// Reading a byte or 0, and which bytes of a text are in a set.
 #![tactic(auto)]
 
-ghost use Rattle.std.specs.Prelude.{◌≡◌, ◌+◌, ◌-◌, ◌≤◌, min, max, length, get_or};
-ghost use Rattle.scan.specs.Bit.{bit};
-ghost use Rattle.scan.specs.Byte.{byte_of};
+ghost use Rattle.std.specs.Prelude.{◌≡◌, ℕ, Bool, ◌+◌, ◌-◌, ◌≤◌, min, length, get_or};
 ghost use Rattle.scan.specs.Run.{run};
-ghost use Rattle.scan.specs.Same.{same};
-ghost use Rattle.scan.specs.Sets.{in_set, ascii};
+ghost use Rattle.scan.specs.Sets.{in_except, in_only, in_ascii};
 ghost use Rattle.scan.specs.Windows.{all_in};
 
-// The byte at an index, or nothing past the end.
-#[derive(Clone, Copy)]
-pub enum Byte {
-    At(u8),
-    Nothing,
+// A set of bytes that a scan passes over.
+pub trait ByteSet: Copy {
+    ghost holds: { Self → ℕ → Bool };
+
+    fn contains(self, b: u8) -> bool
+        ensures { result ≡ holds self b };
 }
 
-// A set of bytes that a scan passes over: all but one, or one.
+// All bytes but one.
 #[derive(Clone, Copy)]
-pub enum ByteSet {
-    Except(u8),
-    Only(u8),
-}
+pub struct Except(pub u8);
 
-// The byte at an offset, or nothing past the end.
-pub fn get(s: &[u8], i: usize) -> Byte
-    ensures { result ≡ byte_of s.now i }
-{
-    if i < s.len() {
-        Byte::At(s[i])
-    } else {
-        Byte::Nothing
+impl ByteSet for Except {
+    ghost holds = { in_except };
+
+    #[tactic(auto, unfolding(crate::specs::Sets::except))]
+    fn contains(self, b: u8) -> bool {
+        b != self.0
     }
 }
 
-// The byte at an index, or 0 past the end: for a caller that looks for a byte other than 0.
+// One byte.
+#[derive(Clone, Copy)]
+pub struct Only(pub u8);
+
+impl ByteSet for Only {
+    ghost holds = { in_only };
+
+    #[tactic(auto, unfolding(crate::specs::Sets::only))]
+    fn contains(self, b: u8) -> bool {
+        b == self.0
+    }
+}
+
+// The ASCII bytes.
+#[derive(Clone, Copy)]
+pub struct Ascii;
+
+impl ByteSet for Ascii {
+    ghost holds = { in_ascii };
+
+    #[tactic(auto, unfolding(crate::specs::Sets::ascii))]
+    fn contains(self, b: u8) -> bool {
+        b < 128
+    }
+}
+
+// The byte at an index, or 0 past the end: for a caller that looks for a byte other than 0, who is spared `Some(&..)`.
 pub fn byte_at(s: &[u8], i: usize) -> u8
     ensures { result ≡ get_or s.now i 0 }
 {
-    if i < s.len() { s[i] } else { 0 }
+    s.get(i).copied().unwrap_or(0)
 }
 
-// 1 for a test that holds, 0 for one that does not.
-pub fn bit(test: bool) -> u8
-    ensures { result ≡ bit test }
+// Whether the N bytes at an offset are all in the set. Every byte is tested, joined by `&`, so that LLVM vectorises it.
+pub fn all_in<S: ByteSet, const N: usize>(s: &[u8], at: usize, set: S) -> bool
+    requires { at + N ≤ length s.now }
+    ensures { result ≡ all_in (S.holds set) at N s.now }
 {
-    if test { 1 } else { 0 }
-}
-
-// The smaller of two numbers.
-pub fn smaller(a: u8, b: u8) -> u8
-    ensures { result ≡ min a b }
-{
-    if b < a { b } else { a }
-}
-
-// The larger of two numbers.
-pub fn larger(a: u8, b: u8) -> u8
-    ensures { result ≡ max a b }
-{
-    if a < b { b } else { a }
-}
-
-// Whether the two bytes at an offset are ASCII. Joined by `&`, so that LLVM vectorises it.
-pub fn two_ascii(s: &[u8], at: usize) -> bool
-    requires { at + 2 ≤ length s.now }
-    ensures { result ≡ all_in ascii at 2 s.now }
-{
-    (s[at] < 128) & (s[at + 1] < 128)
-}
-
-// Whether the four bytes at an offset are ASCII.
-pub fn four_ascii(s: &[u8], at: usize) -> bool
-    requires { at + 4 ≤ length s.now }
-    ensures { result ≡ all_in ascii at 4 s.now }
-{
-    two_ascii(s, at) & two_ascii(s, at + 2)
-}
-
-// Whether the eight bytes at an offset are ASCII.
-pub fn eight_ascii(s: &[u8], at: usize) -> bool
-    requires { at + 8 ≤ length s.now }
-    ensures { result ≡ all_in ascii at 8 s.now }
-{
-    four_ascii(s, at) & four_ascii(s, at + 4)
+    let mut all = true;
+    for b in &s[at..at + N] {
+        all &= set.contains(*b);
+    }
+    all
 }
 
 // An offset `step` bytes further, clamped to the end.
@@ -91,43 +77,16 @@ pub fn clamped_end(from: usize, step: usize, end: usize) -> usize
     requires { from ≤ end }
     ensures { result ≡ from + min step (end - from) }
 {
-    if end - from < step { end } else { from + step }
+    from + step.min(end - from)
 }
 
-// Whether two texts are the same bytes.
-pub fn is_same(a: &[u8], b: &[u8]) -> bool
-    ensures { result ≡ same a.now b.now }
-{
-    if a.len() != b.len() {
-        return false;
-    }
-    let mut i = 0;
-    while i < a.len() {
-        if a[i] != b[i] {
-            return false;
-        }
-        i += 1;
-    }
-    true
-}
-
-// Whether a byte is in a set.
-fn is_in(b: u8, set: ByteSet) -> bool
-    ensures { result ≡ in_set set b }
-{
-    match set {
-        ByteSet::Except(x) => b != x,
-        ByteSet::Only(x) => b == x,
-    }
-}
-
-// How many bytes at the front are in the set.
-pub fn run_len(s: &[u8], set: ByteSet) -> usize
-    ensures { result ≡ run (in_set set) s.now }
+// How many bytes at the front are in the set. Not by `position`, with which a long suffix takes twice as long.
+pub fn run_len<S: ByteSet>(s: &[u8], set: S) -> usize
+    ensures { result ≡ run (S.holds set) s.now }
 {
     let mut i = 0;
     while i < s.len() {
-        if !is_in(s[i], set) {
+        if !set.contains(s[i]) {
             return i;
         }
         i += 1;

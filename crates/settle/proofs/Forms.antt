@@ -8,13 +8,15 @@ use native.Mathlib.Omega.{arith}
 use borrow.Author.Tests.{le-leb, lt-leb}
 use lib.Dec.{eqb, leb}
 use lib.ListN.{length, drop, length-append, length-drop}
+use Rattle.std.specs.Prelude.{Ok, Err}
+use Rattle.err.specs.Numbers.{number_of}
 use Rattle.err.specs.Outcome.{Place, none, Outcome, refused, accepted}
-use Rattle.err.specs.Reading.{outcome_of}
-use Rattle.err.specs.declared.Reading.{Reading}
+use Rattle.err.specs.Reading.{place_of, refusal_of, outcome_of, kind_in, suffix_in}
+use Rattle.err.specs.declared.Literal.{Literal}
+use Rattle.err.specs.declared.ParseError.{ParseError}
 use Rattle.buffer.specs.Buffer.{over}
 use Rattle.grammar.specs.Meaning.{Worth}
 use Rattle.form.specs.Form.{bare_form, form_of, fault_of}
-use Rattle.numbers.specs.Numbers.{kind_in, suffix_in}
 use Rattle.literal.specs.Readings.{read_at}
 use Rattle.form_reading.proofs.Readings.{short, start}
 use Rattle.form_reading.specs.Worths.{worth_of}
@@ -22,7 +24,7 @@ use Rattle.form_reading.proofs.Lengths.{no_len}
 use Rattle.form_reading.specs.Bare.{len, bad, bare_len, bare_by, bare_form_by, Roomy}
 use Rattle.form_bound.specs.Bound.{fits_by_bound}
 use Rattle.form_bound.proofs.ByBound.{by_bound}
-use Rattle.settle.specs.Settled.{FormAnswer, returned, formed, refusal, measured, measure_of, measure_at, settle_at, form_by, form_at, settle_buffer, Fits}
+use Rattle.settle.specs.Settled.{FormAnswer, returned, formed, refusal, settled_of, measured, measure_of, measure_at, settle_at, form_by, form_at, settle_buffer, Fits}
 
 -- a form is no refusal
 pub no_form {ℓ} : {A : Type ℓ} {k n m : ℕ} {p : Place} → refusal m p ≡ formed k n → A
@@ -39,6 +41,10 @@ same_form e = (ap kind e, ap size e)
     size : FormAnswer → ℕ
     size (returned (k, n)) = n
     size (refusal n p) = 0
+
+-- an error with no span, as a refusal
+pub refusing : (m : ℕ) (e : ParseError) → refusal_of e ≡ refused m none → settled_of (Err e) ≡ refusal m none
+refusing m e h = let z : number_of e.kind ≡ m = cc in let y : place_of e.span ≡ none = cc in rw (z, y) refl
 
 -- ---- of a worth w, before a suffix x
 
@@ -86,17 +92,17 @@ Ready s o room = Fits s o room × (formed (kind_in o) (length (form_by s o)) ≡
 module _ (s : List ℕ) where
   pub measure_refused : (o : Outcome) {m : ℕ} {p : Place} → bare_by s o ≡ bad m p → measure_of s o ≡ refusal m p
   measure_refused (refused n q) e = cc
-  measure_refused (accepted k start vs) e = bare_bad (worth_of k s vs) (drop start s) k e
+  measure_refused (accepted k at vs) e = bare_bad (worth_of k s vs) (drop at s) k e
 
   -- its form is the form without suffix, and the suffix
   pub form_split : (o : Outcome) {n : ℕ} → bare_by s o ≡ len n → form_by s o ≡ bare_form_by s o ++ drop (suffix_in o) s
   unfolding form_of
   form_split (refused n q) e = no_len e
-  form_split (accepted k start vs) e = refl
+  form_split (accepted k at vs) e = refl
 
   bare_count : (o : Outcome) {n : ℕ} → bare_by s o ≡ len n → n ≡ length (bare_form_by s o)
   bare_count (refused n q) e = no_len e
-  bare_count (accepted k start vs) e = (bare_len_lem (worth_of k s vs) (drop start s) e).1
+  bare_count (accepted k at vs) e = (bare_len_lem (worth_of k s vs) (drop at s) e).1
 
   form_count : (o : Outcome) {n : ℕ} → bare_by s o ≡ len n → n + (length s - suffix_in o) ≡ length (form_by s o)
   form_count o {n} e = rw (form_split o e, length-append, length-drop) (omega (arith, bare_count o e))
@@ -104,7 +110,7 @@ module _ (s : List ℕ) where
   measure_by : (o : Outcome) {n : ℕ} → bare_by s o ≡ len n
       → measure_of s o ≡ cond (leb (length (form_by s o)) 65536) (formed (kind_in o) (length (form_by s o))) (refusal 47 none)
   measure_by (refused n q) e = no_len e
-  measure_by (accepted k start vs) e = let w = worth_of k s vs in measured_by w (drop start s) k (bare_len_lem w (drop start s) e).0
+  measure_by (accepted k at vs) e = let w = worth_of k s vs in measured_by w (drop at s) k (bare_len_lem w (drop at s) e).0
 
   module _ (o : Outcome) {n : ℕ} (e : bare_by s o ≡ len n) where
     pub measure_long : 65536 < n + (length s - suffix_in o) → measure_of s o ≡ refusal 47 none
@@ -117,8 +123,8 @@ module _ (s : List ℕ) where
   -- what is measured can be written into a buffer that is as long
   pub formed_fits : (o : Outcome) {k n room : ℕ} → measure_of s o ≡ formed k n → n ≤ room → Ready s o room
   formed_fits (refused m q) e h = no_form e
-  formed_fits (accepted k start vs) e h =
-      let f = formed_by (worth_of k s vs) (drop start s) e in
+  formed_fits (accepted k at vs) e h =
+      let f = formed_by (worth_of k s vs) (drop at s) e in
       (record { form = f.0; fits = omega (arith, f.1) }, rw (e, f.1, f.2))
 
   pub fits_both : (o : Outcome) {room : ℕ} → Fits s o room → length (bare_form_by s o) + length (drop (suffix_in o) s) ≤ room
@@ -160,14 +166,14 @@ module _ (s buf : List ℕ) (o : Outcome) (is : o ≡ read_at 0 s) where
 -- ---- strings that fit by the bound
 
 -- neither 47 nor 48 comes
-pub bound_ready : (s : List ℕ) (room : ℕ) (found : Reading) → let o = outcome_of found in o ≡ read_at 0 s → fits_by_bound s o room ≡ true → Ready s o room
+pub bound_ready : (s : List ℕ) (room : ℕ) (found : Literal) → let o = outcome_of (Ok found) in o ≡ read_at 0 s → fits_by_bound s o room ≡ true → Ready s o room
 bound_ready s room found is e =
-    let o = outcome_of found in
+    let o = outcome_of (Ok found) in
     let f = by_bound s room found is e in
     formed_fits s o (measure_formed s o f.form f.short) f.fits
 
 -- a text that is not read is refused as it is there, and the buffer is as it came
 pub read_refused : (s : List ℕ) {n : ℕ} {p : Place} → read_at 0 s ≡ refused n p
-    → ((room : ℕ) → settle_at s room ≡ refusal n p) × ((buf : List ℕ) → settle_buffer s buf ≡ buf)
+    → (measure_at s ≡ refusal n p) × ((room : ℕ) → settle_at s room ≡ refusal n p) × ((buf : List ℕ) → settle_buffer s buf ≡ buf)
 unfolding measure_at settle_at settle_buffer
-read_refused s e = (λ room. rw e refl, λ buf. rw e refl)
+read_refused s e = (rw e refl, λ room. rw e refl, λ buf. rw e refl)

@@ -1,6 +1,6 @@
 -- What measuring and settling return, and what the lent buffer holds then (01, The settled form; Order: "then 45 or 46, 47, 48").
 -- Assumes nothing.
-use Rattle.std.specs.Prelude.{cond, List, [], ◌≡◌, ℕ, ◌≤◌, eqb, leb, length, drop}
+use Rattle.std.specs.Prelude.{cond, List, [], ◌≡◌, ℕ, ◌≤◌, eqb, leb, length, drop, Result, Ok, Err}
 use Rattle.err.specs.Outcome.{none, Outcome, refused, accepted}
 use Rattle.err.specs.Answer.{Answer}
 pub use Rattle.err.specs.Answer.{returned, refusal}
@@ -11,9 +11,10 @@ use Rattle.grammar.specs.Meaning.{Worth}
 use Rattle.form.specs.Form.{form_of, fault_of}
 use Rattle.literal.specs.Readings.{read_at}
 use Rattle.form_reading.specs.Worths.{worth_of}
-use Rattle.form_reading.specs.Bare.{BareLength, len, bad, bare_by, bare_form_by}
-use Rattle.settle.specs.declared.Settled.{Settled}
-use Rattle.settle.specs.declared.Settled.TheVariants as settled
+use Rattle.form_reading.specs.Bare.{len, bare_by, bare_form_by}
+use Rattle.err.specs.Kinds.{kind_code}
+use Rattle.err.specs.declared.Kind.{Kind}
+use Rattle.err.specs.declared.ParseError.{ParseError}
 
 -- a form's kind and length; or a refusal's number and span
 abbrev pub FormAnswer : Type 0
@@ -22,14 +23,9 @@ FormAnswer = Answer (ℕ × ℕ)
 abbrev pub formed : ℕ → ℕ → FormAnswer
 formed k n = returned (k, n)
 
-abbrev pub settled_of : Settled → FormAnswer
-settled_of (settled.Formed k n) = formed k n
-settled_of (settled.Refused k p) = refusal (number_of k) (place_of p)
-
--- whether a measure without the suffix is refused; serves a contract between functions
-abbrev pub IsBad : BareLength → Type 0
-IsBad (len n) = ⊥
-IsBad (bad n p) = Unit {0}
+abbrev pub settled_of : Result (Kind × ℕ) ParseError → FormAnswer
+settled_of (Ok (k, n)) = formed (kind_code k) n
+settled_of (Err e) = refusal (number_of e.kind) (place_of e.span)
 
 -- ---- the measure
 

@@ -7,10 +7,9 @@ use native.Mathlib.Nat.{add-sub_cancel_left}
 use native.Mathlib.Omega.{arith}
 use lib.Dec.{eqb}
 use lib.ListN.{length, get_or, take, drop, length-take, length-drop}
+use Rattle.std.specs.Prelude.{Option, Some, None, Ok}
 use Rattle.err.specs.Outcome.{Place, Outcome, refused, accepted, Rawness, not_raw, raw, truth, digits, ends, value, decoded}
 use Rattle.err.specs.Reading.{hashes_of}
-use Rattle.err.specs.declared.Hashes.{Hashes}
-use Rattle.err.specs.declared.Hashes.TheVariants.{NotRaw, Raw}
 use Rattle.err.specs.declared.StringLit.{StringLit}
 use Rattle.scan.specs.Sets.{only}
 use Rattle.scan.proofs.Cases.{cond_in, cond_eq, cond_lt}
@@ -21,7 +20,6 @@ use Rattle.body.specs.Step.{End, close, refuse, step_of}
 use Rattle.body.specs.Body.{Body, body}
 use Rattle.body.specs.Quote.{Quote, closing, after_end, string_of}
 use Rattle.body.specs.Quote as quote
-use Rattle.body.specs.declared.Quoted.TheVariants as answer
 use Rattle.body.proofs.Within.{step_in}
 use Rattle.body.proofs.Bodies as bodies
 use Rattle.body.proofs.Strings.{suffix_good, suffix_bad}
@@ -175,15 +173,15 @@ abbrev pub Stands : Allowed → List ℕ → List ℕ → Inner → Type 0
 Stands k s v (AsItIs a e) = (a ≤ e) × (e ≤ length s) × (v ≡ take (e - a) (drop a s))
 Stands k s v (Escaped a) = (a ≤ length s) × (v ≡ (body k (drop a s)).value)
 
-stands : (k : Allowed) (s v : List ℕ) (h : Hashes) (n e : ℕ) → Literal k s v (hashes_of h) n e → Stands k s v (inner_by (offset_of k) h n e)
-stands k s v NotRaw n e l =
+stands : (k : Allowed) (s v : List ℕ) (h : Option ℕ) (n e : ℕ) → Literal k s v (hashes_of h) n e → Stands k s v (inner_by (offset_of k) h n e)
+stands k s v None n e l =
     cond_eq (Stands k s v) (offset_of k + n + 1) e
     (λ g. (omega arith, l.inside, rw add-sub_cancel_left (l.as_is g)))
     (λ g. (omega (arith, l.inside), l.value))
-stands k s v (Raw h) n e l = (omega arith, l.inside, rw add-sub_cancel_left l.value)
+stands k s v (Some h) n e l = (omega arith, l.inside, rw add-sub_cancel_left l.value)
 
 -- of a literal that was read
-module _ (k : Allowed) (s : List ℕ) (lit : StringLit) (is : parsed_of k (answer.Lit lit) ≡ string_read k s) where
+module _ (k : Allowed) (s : List ℕ) (lit : StringLit) (is : parsed_of k (Ok lit) ≡ string_read k s) where
   -- THE LAW: its value stands where the reading says
   pub inner_stands : Stands k s (string_value k s) (inner_of k lit)
   inner_stands = stands k s (string_value k s) lit.hashes lit.value_len lit.start_suffix (read_is k s (sym is))
@@ -196,6 +194,6 @@ module _ (k : Allowed) (s : List ℕ) (lit : StringLit) (is : parsed_of k (answe
   pub len_inside : lit.value_len ≤ length s
   len_inside = go lit.hashes (read_is k s (sym is))
     where
-      go : (h : Hashes) → Literal k s (string_value k s) (hashes_of h) lit.value_len lit.start_suffix → lit.value_len ≤ length s
-      go NotRaw l = omega (arith, l.inside)
-      go (Raw h) l = omega (arith, l.inside)
+      go : (h : Option ℕ) → Literal k s (string_value k s) (hashes_of h) lit.value_len lit.start_suffix → lit.value_len ≤ length s
+      go None l = omega (arith, l.inside)
+      go (Some h) l = omega (arith, l.inside)

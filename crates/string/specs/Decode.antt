@@ -1,7 +1,7 @@
 -- What decoding returns, and what the lent buffer holds then (01, Quoted kinds: "Decoded bytes of kinds 5, 7, 8 go to a lent buffer
 -- (..; 48 exactly when it is shorter than the value); bytes past the value keep what they held").
 -- Assumes nothing.
-use Rattle.std.specs.Prelude.{ℕ, cond, List, leb, length}
+use Rattle.std.specs.Prelude.{ℕ, cond, List, leb, length, Result, Ok, Err}
 use Rattle.err.specs.Outcome.{Outcome, refused, accepted, none}
 use Rattle.err.specs.Answer.{Answer}
 pub use Rattle.err.specs.Answer.{returned, refusal}
@@ -10,8 +10,7 @@ use Rattle.err.specs.Reading.{place_of}
 use Rattle.buffer.specs.Buffer.{over}
 use Rattle.escape.specs.declared.Allowed.{Allowed}
 use Rattle.string.specs.String.{string_read, string_value}
-use Rattle.string.specs.declared.Decoded.{Decoded}
-use Rattle.string.specs.declared.Decoded.TheVariants as answer
+use Rattle.err.specs.declared.ParseError.{ParseError}
 
 -- how many bytes were written; or a refusal's number and span
 abbrev pub Decode : Type 0
@@ -20,9 +19,9 @@ Decode = Answer ℕ
 abbrev pub written : ℕ → Decode
 written n = returned n
 
-abbrev pub decoded_of : Decoded → Decode
-decoded_of (answer.Written n) = written n
-decoded_of (answer.Refused k p) = refusal (number_of k) (place_of p)
+abbrev pub decoded_of : Result ℕ ParseError → Decode
+decoded_of (Ok n) = written n
+decoded_of (Err e) = refusal (number_of e.kind) (place_of e.span)
 
 -- of a value and a buffer of `room` bytes: refused with 48 where the value is longer
 abbrev pub fitted : List ℕ → ℕ → Decode

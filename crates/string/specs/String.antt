@@ -1,6 +1,6 @@
 -- What litrs's `StringLit::parse`, `ByteStringLit::parse` and `CStringLit::parse` return (01, Quoted kinds), in their order of tests.
 -- Assumes nothing.
-use Rattle.std.specs.Prelude.{ℕ, ◌+◌, cond, List, [], ◌∷◌, eqb, get_or, drop}
+use Rattle.std.specs.Prelude.{ℕ, ◌+◌, cond, List, [], ◌∷◌, eqb, get_or, drop, Result}
 use Rattle.err.specs.Outcome.{Outcome, refused, accepted, none, between, decoded}
 use Rattle.scan.specs.Run.{run}
 use Rattle.scan.specs.Sets.{only}
@@ -9,7 +9,8 @@ use Rattle.escape.specs.declared.Allowed.TheVariants.{Text, Bytes, C}
 use Rattle.body.specs.Body.{body}
 use Rattle.body.specs.Quote.{Quote, quote_of, string_of}
 use Rattle.body.specs.Quote as quote
-use Rattle.body.specs.declared.Quoted.{Quoted}
+use Rattle.err.specs.declared.StringLit.{StringLit}
+use Rattle.err.specs.declared.ParseError.{ParseError}
 use Rattle.raw.specs.Raw.{raw_body, raw_of}
 use Rattle.string.specs.declared.Opening.{Opening}
 use Rattle.string.specs.declared.Opening.TheVariants as opening
@@ -50,7 +51,7 @@ of_quote k (quote.quoted r start len) = accepted (string_kind k) start (decoded 
 of_quote k (quote.refused n p) = refused n p
 
 -- document 01's numbers and values for each case
-abbrev pub parsed_of : Allowed → Quoted → Outcome
+abbrev pub parsed_of : Allowed → Result StringLit ParseError → Outcome
 parsed_of k q = of_quote k (quote_of q)
 
 abbrev pub read_by : Allowed → Opening → List ℕ → Outcome

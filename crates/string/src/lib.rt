@@ -1,16 +1,14 @@
 // String, byte string and C string literals, which differ in what they allow (`escape::Allowed`): their readings, and their decoded bytes.
 #![tactic(auto)]
 
-ghost use Rattle.std.specs.Prelude.{◌≡◌, ◌≤◌, ◌<◌, length};
-ghost use Rattle.err.specs.Reading.{outcome_of};
+ghost use Rattle.std.specs.Prelude.{◌≡◌, ◌≤◌, ◌<◌, length, Ok};
+ghost use Rattle.err.specs.Reading.{refusal_of, outcome_of};
 ghost use Rattle.buffer.specs.Buffer.{Wrote};
-ghost use Rattle.body.specs.Quote.{IsRefused};
 ghost use Rattle.string.specs.String.{offset_of, opening_by, opening_at, start_fault, parsed_of, string_read, string_value};
 ghost use Rattle.string.specs.Inner.{inner_of};
 ghost use Rattle.string.specs.Decode.{decoded_of, string_decoded, buffer_after};
 
-use body::Quoted;
-use err::{Hashes, ParseErrorKind, Reading, Span, StringLit};
+use err::{Literal, ParseError, ParseErrorKind, StringLit};
 use escape::Allowed;
 
 // Where the body or the hashes start: after `"` or `r`, and the kind's letter.
@@ -25,30 +23,24 @@ pub fn offset(k: Allowed) -> usize
 }
 
 // What another start is refused with.
-fn refused_start(k: Allowed) -> Quoted
-    ensures { parsed_of k result ≡ start_fault k }
+fn refused_start(k: Allowed) -> ParseError
+    ensures { refusal_of result ≡ start_fault k }
 {
     match k {
-        Allowed::Text => Quoted::Refused(
-            ParseErrorKind::InvalidStringLiteralStart,
-            Span::Between(0, 1),
-        ),
-        Allowed::Bytes => Quoted::Refused(
-            ParseErrorKind::InvalidByteStringLiteralStart,
-            Span::Nowhere,
-        ),
-        Allowed::C => Quoted::Refused(ParseErrorKind::InvalidCStringLiteralStart, Span::Nowhere),
+        Allowed::Text => err::perr(ParseErrorKind::InvalidStringLiteralStart, 0, 1),
+        Allowed::Bytes => err::perr_nowhere(ParseErrorKind::InvalidByteStringLiteralStart),
+        Allowed::C => err::perr_nowhere(ParseErrorKind::InvalidCStringLiteralStart),
     }
 }
 
-// The reading of a literal of the kind.
-fn reading(k: Allowed, lit: StringLit) -> Reading
-    ensures { outcome_of result ≡ parsed_of k (Quoted.Lit lit) }
+// The literal of the kind.
+fn literal(k: Allowed, lit: StringLit) -> Literal
+    ensures { outcome_of (Ok result) ≡ parsed_of k (Ok lit) }
 {
     match k {
-        Allowed::Text => Reading::String(lit),
-        Allowed::Bytes => Reading::ByteString(lit),
-        Allowed::C => Reading::CString(lit),
+        Allowed::Text => Literal::String(lit),
+        Allowed::Bytes => Literal::ByteString(lit),
+        Allowed::C => Literal::CString(lit),
     }
 }
 
@@ -82,6 +74,7 @@ fn opening_of(text: &[u8], k: Allowed) -> Opening
 }
 
 // How a literal goes on after the kind's letter.
+#[tactic(auto, unfolding(crate::specs::String::opening_by))]
 fn quote_or_r(b: u8) -> Opening
     ensures { result ≡ opening_by b }
 {
@@ -93,53 +86,31 @@ fn quote_or_r(b: u8) -> Opening
 }
 
 // The literal that a text is, or why it is none.
-fn parse_lit(text: &[u8], k: Allowed) -> Quoted
+#[tactic(auto, using(crate::proofs::Starts::read_none, crate::proofs::Starts::read_some))]
+fn parse_lit(text: &[u8], k: Allowed) -> Result<StringLit, ParseError>
     requires { length text.now < 4294967296 }
     ensures { parsed_of k result ≡ string_read k text.now }
 {
-    if text.len() == 0 {
-        return Quoted::Refused(ParseErrorKind::Empty, Span::Nowhere);
+    if text.is_empty() {
+        return Err(err::perr_nowhere(ParseErrorKind::Empty));
     }
-    let start = opening_of(text, k);
-    match start {
+    match opening_of(text, k) {
         Opening::Quoted => body::unescape_string(text, offset(k), k),
         Opening::Raw => raw::scan_raw_string(text, offset(k), k),
-        Opening::Neither => refused_start(k),
-    }
-}
-
-// The refusal as a reading, the same for each kind.
-fn refusal(lit: Quoted) -> Reading
-    requires { IsRefused lit }
-    ensures { (k : Allowed) → outcome_of result ≡ parsed_of k lit }
-{
-    match lit {
-        // ruled out by `requires`
-        Quoted::Lit(_) => err::perr_nowhere(ParseErrorKind::InvalidLiteral),
-        Quoted::Refused(kind, span) => Reading::Refused(kind, span),
+        Opening::Neither => Err(refused_start(k)),
     }
 }
 
 // litrs's `StringLit::parse`, `ByteStringLit::parse` and `CStringLit::parse`.
-pub fn parse(text: &[u8], k: Allowed) -> Reading
+pub fn parse(text: &[u8], k: Allowed) -> Result<Literal, ParseError>
     requires { length text.now < 4294967296 }
     ensures { outcome_of result ≡ string_read k text.now }
 {
-    let lit = parse_lit(text, k);
-    let Quoted::Lit(l) = lit else {
-        return refusal(lit);
-    };
-    reading(k, l)
+    let lit = parse_lit(text, k)?;
+    Ok(literal(k, lit))
 }
 
-// How many bytes were written, or why none were.
-#[derive(Clone, Copy)]
-pub enum Decoded {
-    Written(usize),
-    Refused(ParseErrorKind, Span),
-}
-
-// Where a literal's value stands in its text: as it is, from one offset to another; or as a quoted body with escapes, from an offset.
+// Where a literal's value stands in its text (two places, neither a failure, so it is no `Result`): as it is, from one offset to another; or as a quoted body with escapes, from an offset.
 #[derive(Clone, Copy)]
 pub enum Inner {
     AsItIs(usize, usize),
@@ -153,17 +124,16 @@ pub fn inner_range(k: Allowed, lit: StringLit) -> Inner
 {
     let from = offset(k);
     let n = lit.value_len;
-    let hashes = lit.hashes;
-    match hashes {
-        Hashes::NotRaw => {
+    match lit.hashes {
+        None => {
             let end = from + n;
             if end + 1 == lit.start_suffix {
                 return Inner::AsItIs(from, end);
             }
             Inner::Escaped(from)
         }
-        Hashes::Raw(h) => {
-            let start = from + h as usize + 1;
+        Some(h) => {
+            let start = from + usize::from(h) + 1;
             Inner::AsItIs(start, start + n)
         }
     }
@@ -171,24 +141,24 @@ pub fn inner_range(k: Allowed, lit: StringLit) -> Inner
 
 // The value of a literal that was read from the text, written to the front of out.
 fn put_decoded(out: &mut [u8], text: &[u8], k: Allowed, lit: StringLit) -> usize
-    requires { ((length text.now < 4294967296) × (parsed_of k (Quoted.Lit lit) ≡ string_read k text.now)) × (lit.value_len ≤ length out.old) }
+    requires { ((length text.now < 4294967296) × (parsed_of k (Ok lit) ≡ string_read k text.now)) × (lit.value_len ≤ length out.old) }
     ensures { Wrote (string_value k text.now) result out.old out.new }
 {
-    let inner = inner_range(k, lit);
-    match inner {
+    match inner_range(k, lit) {
         Inner::AsItIs(start, end) => buffer::put_bytes(out, &text[start..end]),
         Inner::Escaped(start) => body_value::write_value(out, &text[start..], k),
     }
 }
 
-// The decoded bytes of a literal that was read from the text: they are counted, so that a refusal leaves every byte of out as it came.
-pub fn decode(text: &[u8], k: Allowed, lit: StringLit, out: &mut [u8]) -> Decoded
-    requires { (length text.now < 4294967296) × (parsed_of k (Quoted.Lit lit) ≡ string_read k text.now) }
+// The decoded bytes of a literal that was read from the text, and how many they are: they are counted before, so that a refusal leaves every byte of out as
+// it came.
+pub fn decode(text: &[u8], k: Allowed, lit: StringLit, out: &mut [u8]) -> Result<usize, ParseError>
+    requires { (length text.now < 4294967296) × (parsed_of k (Ok lit) ≡ string_read k text.now) }
     ensures answer { decoded_of result ≡ string_decoded k text.now (length out.old) }
     ensures out_after { out.new ≡ buffer_after k text.now out.old }
 {
     if out.len() < lit.value_len {
-        return Decoded::Refused(ParseErrorKind::OutTooSmall, Span::Nowhere);
+        return Err(err::perr_nowhere(ParseErrorKind::OutTooSmall));
     }
-    Decoded::Written(put_decoded(out, text, k, lit))
+    Ok(put_decoded(out, text, k, lit))
 }

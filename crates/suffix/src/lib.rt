@@ -5,48 +5,34 @@ ghost use Rattle.std.specs.Prelude.{◌≡◌};
 ghost use Rattle.err.specs.Checked.{checked_of};
 ghost use Rattle.suffix.specs.Suffix.{suffix_fault, suffix_start};
 
-use err::{Checked, ParseErrorKind};
-use parse::ClassSet;
+use err::ParseErrorKind;
+use parse::SuffixRest;
 
 // A letter, `_` or a byte above 127.
+#[tactic(auto, using(crate::proofs::Starts::start_is))]
 fn starts_suffix(b: u8) -> bool
     ensures { result ≡ suffix_start b }
 {
-    if b'a' <= b {
-        if b <= b'z' {
-            return true;
-        }
-        return 127 < b;
-    }
-    if b == b'_' {
-        return true;
-    }
-    if b < b'A' {
-        return false;
-    }
-    b <= b'Z'
+    b.is_ascii_alphabetic() || b == b'_' || 127 < b
 }
 
 // What is wrong with a suffix: litrs's `check_suffix`.
-pub fn check_suffix(s: &[u8]) -> Checked
+#[tactic(auto, unfolding(crate::specs::Suffix::suffix_fault, crate::specs::Suffix::fault_from))]
+pub fn check_suffix(s: &[u8]) -> Result<(), ParseErrorKind>
     ensures { checked_of result ≡ suffix_fault s.now }
 {
-    if s.len() == 0 {
-        return Checked::Good;
+    let [first, rest @ ..] = s else {
+        return Ok(());
+    };
+    if *first == b'_' && rest.is_empty() {
+        return Err(ParseErrorKind::InvalidSuffix);
     }
-    let first = s[0];
-    if first == b'_' {
-        if s.len() == 1 {
-            return Checked::Bad(ParseErrorKind::InvalidSuffix);
-        }
+    if !starts_suffix(*first) {
+        return Err(ParseErrorKind::UnexpectedChar);
     }
-    if !starts_suffix(first) {
-        return Checked::Bad(ParseErrorKind::UnexpectedChar);
-    }
-    let rest = &s[1..];
-    if parse::run_len(rest, ClassSet::SuffixRest) == rest.len() {
-        Checked::Good
+    if scan::run_len(rest, SuffixRest) == rest.len() {
+        Ok(())
     } else {
-        Checked::Bad(ParseErrorKind::InvalidSuffix)
+        Err(ParseErrorKind::InvalidSuffix)
     }
 }

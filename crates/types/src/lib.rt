@@ -20,20 +20,6 @@ pub enum IntegerType {
     Isize,
 }
 
-// An integer type, or that a name or a code is none.
-#[derive(Clone, Copy)]
-pub enum IntegerFound {
-    Type(IntegerType),
-    Nothing,
-}
-
-// A type's largest value, or that the type has no values here.
-#[derive(Clone, Copy)]
-pub enum Largest {
-    Value(u64),
-    NoValues,
-}
-
 impl IntegerType {
     pub const U8_MAX: u64 = 0xFF;
 
@@ -52,87 +38,66 @@ impl IntegerType {
     pub const I64_MAX: u64 = 0x7FFF_FFFF_FFFF_FFFF;
 
     // The type that a suffix names: litrs's `IntegerType::from_suffix`.
-    pub fn from_suffix(suffix: &[u8]) -> IntegerFound
+    #[tactic(auto, using(crate::proofs::Names::no_integer), unfolding(crate::specs::Types::integer_named, crate::specs::Types::named_in))]
+    pub fn from_suffix(suffix: &[u8]) -> Option<IntegerType>
         ensures value { result ≡ integer_named suffix.now }
         ensures suffix_unchanged { suffix.exit.now ≡ suffix.entry.now }
     {
-        if scan::is_same(suffix, b"u8") {
-            return IntegerFound::Type(IntegerType::U8);
+        match suffix {
+            b"u8" => Some(IntegerType::U8),
+            b"u16" => Some(IntegerType::U16),
+            b"u32" => Some(IntegerType::U32),
+            b"u64" => Some(IntegerType::U64),
+            b"u128" => Some(IntegerType::U128),
+            b"usize" => Some(IntegerType::Usize),
+            b"i8" => Some(IntegerType::I8),
+            b"i16" => Some(IntegerType::I16),
+            b"i32" => Some(IntegerType::I32),
+            b"i64" => Some(IntegerType::I64),
+            b"i128" => Some(IntegerType::I128),
+            b"isize" => Some(IntegerType::Isize),
+            _ => None,
         }
-        if scan::is_same(suffix, b"u16") {
-            return IntegerFound::Type(IntegerType::U16);
-        }
-        if scan::is_same(suffix, b"u32") {
-            return IntegerFound::Type(IntegerType::U32);
-        }
-        if scan::is_same(suffix, b"u64") {
-            return IntegerFound::Type(IntegerType::U64);
-        }
-        if scan::is_same(suffix, b"u128") {
-            return IntegerFound::Type(IntegerType::U128);
-        }
-        if scan::is_same(suffix, b"usize") {
-            return IntegerFound::Type(IntegerType::Usize);
-        }
-        if scan::is_same(suffix, b"i8") {
-            return IntegerFound::Type(IntegerType::I8);
-        }
-        if scan::is_same(suffix, b"i16") {
-            return IntegerFound::Type(IntegerType::I16);
-        }
-        if scan::is_same(suffix, b"i32") {
-            return IntegerFound::Type(IntegerType::I32);
-        }
-        if scan::is_same(suffix, b"i64") {
-            return IntegerFound::Type(IntegerType::I64);
-        }
-        if scan::is_same(suffix, b"i128") {
-            return IntegerFound::Type(IntegerType::I128);
-        }
-        if scan::is_same(suffix, b"isize") {
-            return IntegerFound::Type(IntegerType::Isize);
-        }
-        IntegerFound::Nothing
     }
 
     // The type that a code stands for.
-    pub fn from_code(code: u64) -> IntegerFound
+    pub fn from_code(code: u64) -> Option<IntegerType>
         ensures { result ≡ integer_coded code }
     {
         match code {
-            1 => IntegerFound::Type(IntegerType::U8),
-            2 => IntegerFound::Type(IntegerType::U16),
-            3 => IntegerFound::Type(IntegerType::U32),
-            4 => IntegerFound::Type(IntegerType::U64),
-            5 => IntegerFound::Type(IntegerType::U128),
-            6 => IntegerFound::Type(IntegerType::Usize),
-            7 => IntegerFound::Type(IntegerType::I8),
-            8 => IntegerFound::Type(IntegerType::I16),
-            9 => IntegerFound::Type(IntegerType::I32),
-            10 => IntegerFound::Type(IntegerType::I64),
-            11 => IntegerFound::Type(IntegerType::I128),
-            12 => IntegerFound::Type(IntegerType::Isize),
-            _ => IntegerFound::Nothing,
+            1 => Some(IntegerType::U8),
+            2 => Some(IntegerType::U16),
+            3 => Some(IntegerType::U32),
+            4 => Some(IntegerType::U64),
+            5 => Some(IntegerType::U128),
+            6 => Some(IntegerType::Usize),
+            7 => Some(IntegerType::I8),
+            8 => Some(IntegerType::I16),
+            9 => Some(IntegerType::I32),
+            10 => Some(IntegerType::I64),
+            11 => Some(IntegerType::I128),
+            12 => Some(IntegerType::Isize),
+            _ => None,
         }
     }
 
     // The largest value of the type; the 128-bit and pointer-sized types have no values here.
-    pub fn largest(self) -> Largest
+    pub fn largest(self) -> Option<u64>
         ensures { result ≡ largest_of self }
     {
         match self {
-            IntegerType::U8 => Largest::Value(IntegerType::U8_MAX),
-            IntegerType::U16 => Largest::Value(IntegerType::U16_MAX),
-            IntegerType::U32 => Largest::Value(IntegerType::U32_MAX),
-            IntegerType::U64 => Largest::Value(IntegerType::U64_MAX),
-            IntegerType::U128 => Largest::NoValues,
-            IntegerType::Usize => Largest::NoValues,
-            IntegerType::I8 => Largest::Value(IntegerType::I8_MAX),
-            IntegerType::I16 => Largest::Value(IntegerType::I16_MAX),
-            IntegerType::I32 => Largest::Value(IntegerType::I32_MAX),
-            IntegerType::I64 => Largest::Value(IntegerType::I64_MAX),
-            IntegerType::I128 => Largest::NoValues,
-            IntegerType::Isize => Largest::NoValues,
+            IntegerType::U8 => Some(IntegerType::U8_MAX),
+            IntegerType::U16 => Some(IntegerType::U16_MAX),
+            IntegerType::U32 => Some(IntegerType::U32_MAX),
+            IntegerType::U64 => Some(IntegerType::U64_MAX),
+            IntegerType::U128 => None,
+            IntegerType::Usize => None,
+            IntegerType::I8 => Some(IntegerType::I8_MAX),
+            IntegerType::I16 => Some(IntegerType::I16_MAX),
+            IntegerType::I32 => Some(IntegerType::I32_MAX),
+            IntegerType::I64 => Some(IntegerType::I64_MAX),
+            IntegerType::I128 => None,
+            IntegerType::Isize => None,
         }
     }
 
@@ -163,26 +128,18 @@ pub enum FloatType {
     F64,
 }
 
-// A float type, or that a name is none.
-#[derive(Clone, Copy)]
-pub enum FloatFound {
-    Type(FloatType),
-    Nothing,
-}
-
 impl FloatType {
     // The type that a suffix names.
-    pub fn from_suffix(suffix: &[u8]) -> FloatFound
+    #[tactic(auto, using(crate::proofs::Names::no_float), unfolding(crate::specs::Types::float_named))]
+    pub fn from_suffix(suffix: &[u8]) -> Option<FloatType>
         ensures value { result ≡ float_named suffix.now }
         ensures suffix_unchanged { suffix.exit.now ≡ suffix.entry.now }
     {
-        if scan::is_same(suffix, b"f32") {
-            return FloatFound::Type(FloatType::F32);
+        match suffix {
+            b"f32" => Some(FloatType::F32),
+            b"f64" => Some(FloatType::F64),
+            _ => None,
         }
-        if scan::is_same(suffix, b"f64") {
-            return FloatFound::Type(FloatType::F64);
-        }
-        FloatFound::Nothing
     }
 
     // The type's code: 13 or 14.

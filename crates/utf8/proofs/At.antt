@@ -15,31 +15,30 @@ use Rattle.scan.proofs.Cases.{cond_in, cond_lt, cond_eq}
 use Rattle.utf8.specs.Utf8.{Scalar, encode, Utf8}
 use Rattle.utf8.specs.Decode.{length_from, decode2, decode3, decode4, rest2, rest3, rest4, decode_by, decode}
 use Rattle.utf8.specs.Cut.{continuation}
-use Rattle.utf8.specs.declared.Decoded.{Decoded}
-use Rattle.utf8.specs.declared.Decoded.TheVariants.{Char, Bad}
+use Rattle.std.specs.Prelude.{Option, Some, None}
 use Rattle.utf8.proofs.Laws.{encode_length, Found, decode_found}
 use Rattle.utf8.proofs.Text.{utf8_char, utf8_rest, utf8_bad}
 
 -- a text that is too short for the length that its first byte says
-short_rest : (n a : ℕ) (r : List ℕ) → (n ≡ 1 → ⊥) → length r + 1 < n → decode_by n a r ≡ Bad
+short_rest : (n a : ℕ) (r : List ℕ) → (n ≡ 1 → ⊥) → length r + 1 < n → decode_by n a r ≡ None
 unfolding decode_by rest2 rest3 rest4
 short_rest n a r k h =
-    let P : Decoded → Type 0 = λ d. d ≡ Bad in
+    let P : Option (ℕ × ℕ) → Type 0 = λ d. d ≡ None in
     cond_eq P n 1 (λ e. absurd (k e)) λ e1.
     cond_eq P n 2 (λ e. two r (omega arith)) λ e2.
     cond_eq P n 3 (λ e. three r (omega arith)) λ e3.
     cond_eq P n 4 (λ e. four r (omega arith)) λ e4. refl
   where
-    two : (r : List ℕ) → length r < 1 → rest2 a r ≡ Bad
+    two : (r : List ℕ) → length r < 1 → rest2 a r ≡ None
     two [] h = refl
     two (b ∷ r) h = absurd (omega arith)
 
-    three : (r : List ℕ) → length r < 2 → rest3 a r ≡ Bad
+    three : (r : List ℕ) → length r < 2 → rest3 a r ≡ None
     three [] h = refl
     three (b ∷ []) h = refl
     three (b ∷ c ∷ r) h = absurd (omega arith)
 
-    four : (r : List ℕ) → length r < 3 → rest4 a r ≡ Bad
+    four : (r : List ℕ) → length r < 3 → rest4 a r ≡ None
     four [] h = refl
     four (b ∷ []) h = refl
     four (b ∷ c ∷ []) h = refl
@@ -54,15 +53,15 @@ padded2 a (b ∷ r) = refl
 padded3 : (a : ℕ) (r : List ℕ) → rest3 a r ≡ decode3 a (get_or r 0 0) (get_or r 1 0)
 unfolding rest3 decode3
 padded3 a [] = refl
-padded3 a (b ∷ []) = cond_in (λ (d : Decoded). Bad ≡ d) (eqb (b / 64) 2) (λ e. refl) (λ e. refl)
+padded3 a (b ∷ []) = cond_in (λ (d : Option (ℕ × ℕ)). None ≡ d) (eqb (b / 64) 2) (λ e. refl) (λ e. refl)
 padded3 a (b ∷ c ∷ r) = refl
 
 padded4 : (a : ℕ) (r : List ℕ) → rest4 a r ≡ decode4 a (get_or r 0 0) (get_or r 1 0) (get_or r 2 0)
 unfolding rest4 decode4
 padded4 a [] = refl
-padded4 a (b ∷ []) = cond_in (λ (d : Decoded). Bad ≡ d) (eqb (b / 64) 2) (λ e. refl) (λ e. refl)
+padded4 a (b ∷ []) = cond_in (λ (d : Option (ℕ × ℕ)). None ≡ d) (eqb (b / 64) 2) (λ e. refl) (λ e. refl)
 padded4 a (b ∷ c ∷ []) =
-    cond_in (λ (d : Decoded). Bad ≡ d) (eqb (b / 64) 2) (λ e. cond_in (λ (d : Decoded). Bad ≡ d) (eqb (c / 64) 2) (λ f. refl) (λ f. refl)) (λ e. refl)
+    cond_in (λ (d : Option (ℕ × ℕ)). None ≡ d) (eqb (b / 64) 2) (λ e. cond_in (λ (d : Option (ℕ × ℕ)). None ≡ d) (eqb (c / 64) 2) (λ f. refl) (λ f. refl)) (λ e. refl)
 padded4 a (b ∷ c ∷ d ∷ r) = refl
 
 -- a byte of the rest, by its offset in the text
@@ -74,11 +73,11 @@ module _ (t : List ℕ) (at n : ℕ) (within : at < length t) (is : n ≡ length
   unfolding decode
   by_length = rw (drop-cons t at 0, is, add-one) refl
 
-  pub decode_one : n ≡ 1 → decode (drop at t) ≡ Char (get_or t at 0) 1
+  pub decode_one : n ≡ 1 → decode (drop at t) ≡ Some (get_or t at 0, 1)
   unfolding decode_by
   decode_one e = by_length ∙ simp (eq-eqb n 1 e)
 
-  pub decode_short : (n ≡ 1 → ⊥) → length t - at < n → decode (drop at t) ≡ Bad
+  pub decode_short : (n ≡ 1 → ⊥) → length t - at < n → decode (drop at t) ≡ None
   decode_short k h = by_length ∙ short_rest n (get_or t at 0) (drop (at + 1) t) k (omega (arith, length-drop (at + 1) t))
 
   pub decode_two : n ≡ 2 → decode (drop at t) ≡ decode2 (get_or t at 0) (get_or t (at + 1) 0)
@@ -94,18 +93,18 @@ module _ (t : List ℕ) (at n : ℕ) (within : at < length t) (is : n ≡ length
   decode_four e =
       by_length ∙ rw (e, padded4, in_rest t at 0 (at + 1) (omega arith), in_rest t at 1 (at + 2) (omega arith), in_rest t at 2 (at + 3) (omega arith))
 
-  pub decode_none : (n ≡ 1 → ⊥) → (n ≡ 2 → ⊥) → (n ≡ 3 → ⊥) → (n ≡ 4 → ⊥) → decode (drop at t) ≡ Bad
+  pub decode_none : (n ≡ 1 → ⊥) → (n ≡ 2 → ⊥) → (n ≡ 3 → ⊥) → (n ≡ 4 → ⊥) → decode (drop at t) ≡ None
   unfolding decode_by
   decode_none e1 e2 e3 e4 = by_length ∙ simp (ne_eqb n 1 e1, ne_eqb n 2 e2, ne_eqb n 3 e3, ne_eqb n 4 e4)
 
 -- a byte that needs another after it, and has no continuation byte there
-pub decode_alone : (t : List ℕ) (at : ℕ) → at < length t → 0x80 ≤ get_or t at 0 → continuation (get_or t (at + 1) 0) ≡ false → decode (drop at t) ≡ Bad
+pub decode_alone : (t : List ℕ) (at : ℕ) → at < length t → 0x80 ≤ get_or t at 0 → continuation (get_or t (at + 1) 0) ≡ false → decode (drop at t) ≡ None
 unfolding decode_by length_from continuation decode2 decode3 decode4
 decode_alone t at h g e =
     let a = get_or t at 0 in
     let r : List ℕ = drop (at + 1) t in
     let f : eqb (get_or r 0 0 / 64) 2 ≡ false = rw (in_rest t at 0 (at + 1) (omega arith)) e in
-    let P : ℕ → Type 0 = λ n. decode_by n a r ≡ Bad in
+    let P : ℕ → Type 0 = λ n. decode_by n a r ≡ None in
     by_length t at (length_from a) h refl ∙
     cond_lt P a 0x80 (λ k. absurd (omega arith)) λ k.
     cond_lt P a 0xC0 (λ k. refl) λ k.
@@ -113,16 +112,16 @@ decode_alone t at h g e =
     cond_lt P a 0xF0 (λ k. padded3 a r ∙ rw f) λ k.
     cond_lt P a 0xF8 (λ k. padded4 a r ∙ rw f) λ k. refl
 
-pub decode_past : (t : List ℕ) (at : ℕ) → length t ≤ at → decode (drop at t) ≡ Bad
+pub decode_past : (t : List ℕ) (at : ℕ) → length t ≤ at → decode (drop at t) ≡ None
 unfolding decode
 decode_past t at h = rw (drop_of_length-le t h) refl
 
 -- ---- what a character that is found at an offset says of the text
 
-module _ (t : List ℕ) (at s n : ℕ) (e : decode (drop at t) ≡ Char s n) where
+module _ (t : List ℕ) (at s n : ℕ) (e : decode (drop at t) ≡ Some (s, n)) where
   pub found_at : Scalar s × (encode s ++ drop (at + n) t ≡ drop at t) × (length (encode s) ≡ n)
   found_at =
-      let f : Found (drop at t) (Char s n) = subst (λ (d : Decoded). Found (drop at t) d) e (decode_found (drop at t)) in
+      let f : Found (drop at t) (Some (s, n)) = subst (λ (d : Option (ℕ × ℕ)). Found (drop at t) d) e (decode_found (drop at t)) in
       (f.0, ap (λ (l : List ℕ). encode s ++ l) (sym (drop-drop n at t)) ∙ f.1, f.2)
 
   pub found_bounds : (0 < n) × (at + n ≤ length t)
@@ -139,5 +138,5 @@ module _ (t : List ℕ) (at s n : ℕ) (e : decode (drop at t) ≡ Char s n) whe
       )
 
 -- no character at an offset inside the text: the text is not UTF-8 from there
-pub bad_utf8 : (t : List ℕ) (at : ℕ) → at < length t → decode (drop at t) ≡ Bad → Utf8 (drop at t) → ⊥
+pub bad_utf8 : (t : List ℕ) (at : ℕ) → at < length t → decode (drop at t) ≡ None → Utf8 (drop at t) → ⊥
 bad_utf8 t at h e u = omega (arith, ap length (utf8_bad (drop at t) u e), length-drop at t)

@@ -8,7 +8,7 @@ use Prim.Native.Nat.{ℕ, zero, suc, ◌+◌, ◌-◌, ◌/◌, ◌≤◌, ◌<�
 use native.Mathlib.Omega.{arith}
 use lib.Dec.{eqb}
 use lib.ListN.{length, get_or, take, drop, length-drop, length-append}
-use lib.Seq.{drop-cons, length-take-le, get_or-append_seam}
+use lib.Seq.{length-take-le, get_or-append_seam, get_or-drop}
 use borrow.Author.Tests.{eq-eqb, ne_eqb, eqb-true, eqb-false, le-leb, lt-leb, not-true}
 use Rattle.scan.specs.Run.{run}
 use Rattle.scan.proofs.Cases.{cond_in, by_lt}
@@ -76,17 +76,20 @@ pub front_drop : (s : List ℕ) (i : ℕ) → i < length s → continuation (get
 front_drop s i h e =
     let n : length (drop i s) - last_len s ≡ length s - last_len s - i = omega (arith, length-drop i s) in rw ((last_drop s i h e).0, n)
 
--- ---- a search from the end, one byte further back
+-- ---- a search from the end
 
-module _ (s : List ℕ) (n : ℕ) (pos : 0 < n) (within : n ≤ length s) (rest : run continuation (drop n s) ≡ length (drop n s)) where
-  past : run continuation (drop (suc (n - 1)) s) ≡ length (drop (suc (n - 1)) s)
-  past = let e : n ≡ suc (n - 1) = omega arith in subst (λ (m : ℕ). run continuation (drop m s) ≡ length (drop m s)) e rest
+all_run : (l : List ℕ) → ((k : ℕ) → k < length l → continuation (get_or l k 0) ≡ true) → run continuation l ≡ length l
+all_run [] h = refl
+all_run (b ∷ l) h = rw (h 0 (omega arith)) (ap suc (all_run l (λ k g. h (suc k) (omega arith))))
 
-  pub back_more : continuation (get_or s (n - 1) 0) ≡ true → run continuation (drop (n - 1) s) ≡ length (drop (n - 1) s)
-  back_more e = rw (drop-cons s (n - 1) 0 (omega arith), e) (ap suc past)
+pub found_none : (s : List ℕ) → ((k : ℕ) → k < length s → continuation (get_or s k 0) ≡ true) → length s ≡ last_len s
+found_none s h = sym (last_none s (all_run s h))
 
-  pub back_stop : continuation (get_or s (n - 1) 0) ≡ false → length s - (n - 1) ≡ last_len s
-  back_stop e = sym (last_at s (n - 1) (omega arith) e past)
+pub found_last : (s : List ℕ) (n : ℕ) → n < length s → continuation (get_or s n 0) ≡ false
+    → ((k : ℕ) → n + 1 ≤ k → k < length s → continuation (get_or s k 0) ≡ true) → length s - n ≡ last_len s
+found_last s n h e after =
+    sym (last_at s n h e (all_run (drop (suc n) s)
+    (λ k g. rw (get_or-drop (suc n) s k 0) (after (suc n + k) (omega arith) (omega (arith, g, length-drop (suc n) s))))))
 
 -- ---- the last character of a UTF-8 text
 

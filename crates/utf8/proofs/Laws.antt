@@ -10,8 +10,7 @@ use borrow.Author.Tests.{lt-ltb, le-ltb, eq-eqb}
 use Rattle.scan.proofs.Cases.{cond_lt, cond_eq, by_lt}
 use Rattle.utf8.specs.Utf8.{Scalar, encode}
 use Rattle.utf8.specs.Decode.{length_from, decode2, chosen3, decode3, chosen4, decode4, rest2, rest3, rest4, decode_by, decode}
-use Rattle.utf8.specs.declared.Decoded.{Decoded}
-use Rattle.utf8.specs.declared.Decoded.TheVariants.{Char, Bad}
+use Rattle.std.specs.Prelude.{Option, Some, None}
 
 -- ---- the rows of the table by their ranges
 
@@ -73,15 +72,15 @@ encode_high s g i h =
 -- ---- the decoder is right
 
 -- what is said of a character that was found at the start of a text
-abbrev pub Found : List ℕ → Decoded → Type 0
-Found text Bad = Unit {0}
-Found text (Char s n) = Scalar s × (encode s ++ drop n text ≡ text) × (length (encode s) ≡ n)
+abbrev pub Found : List ℕ → Option (ℕ × ℕ) → Type 0
+Found text None = Unit {0}
+Found text (Some (s, n)) = Scalar s × (encode s ++ drop n text ≡ text) × (length (encode s) ≡ n)
 
 found2 : (a b : ℕ) (r : List ℕ) → 0xC0 ≤ a → a < 0xE0 → Found (a ∷ b ∷ r) (decode2 a b)
 unfolding decode2 encode
 found2 a b r lo hi =
     let s = a % 32 * 64 + b % 64 in
-    let P : Decoded → Type 0 = Found (a ∷ b ∷ r) in
+    let P : Option (ℕ × ℕ) → Type 0 = Found (a ∷ b ∷ r) in
     cond_eq P (b / 64) 2 (λ e. cond_lt P s 0x80 (λ g. tt) (λ g.
     let e1 : 0xC0 + s / 64 ≡ a = omega arith in
     let e2 : 0x80 + s % 64 ≡ b = omega arith in
@@ -94,14 +93,14 @@ found3 : (a b c : ℕ) (r : List ℕ) → 0xE0 ≤ a → a < 0xF0 → Found (a �
 unfolding decode3 chosen3 encode
 found3 a b c r lo hi =
     let s = a % 16 * 4096 + b % 64 * 64 + c % 64 in
-    let P : Decoded → Type 0 = Found (a ∷ b ∷ c ∷ r) in
+    let P : Option (ℕ × ℕ) → Type 0 = Found (a ∷ b ∷ c ∷ r) in
     cond_eq P (b / 64) 2 (λ eb. cond_eq P (c / 64) 2 (λ ec. cond_lt P s 0x800 (λ g. tt) (λ g.
     let e1 : 0xE0 + s / 4096 ≡ a = omega arith in
     let e2 : 0x80 + s / 64 % 64 ≡ b = omega arith in
     let e3 : 0x80 + s % 64 ≡ c = omega arith in
     let is : encode s ≡ a ∷ b ∷ c ∷ [] =
     simp (le-ltb s 0x80 (omega arith), le-ltb s 0x800 g, lt-ltb s 0x10000 (omega arith), e1, e2, e3) in
-    let here : Scalar s → P (Char s 3) = λ y. (y, ap (λ (l : List ℕ). l ++ r) is, ap length is) in
+    let here : Scalar s → P (Some (s, 3)) = λ y. (y, ap (λ (l : List ℕ). l ++ r) is, ap length is) in
     cond_lt P s 0xD800 (λ h. here (inl (omega arith))) (λ h. cond_lt P s 0xE000 (λ k. tt) (λ k. here (inr (k, omega arith))))))
     (λ ec. tt)) (λ eb. tt)
 
@@ -109,7 +108,7 @@ found4 : (a b c d : ℕ) (r : List ℕ) → 0xF0 ≤ a → a < 0xF8 → Found (a
 unfolding decode4 chosen4 encode
 found4 a b c d r lo hi =
     let s = a % 8 * 262144 + b % 64 * 4096 + c % 64 * 64 + d % 64 in
-    let P : Decoded → Type 0 = Found (a ∷ b ∷ c ∷ d ∷ r) in
+    let P : Option (ℕ × ℕ) → Type 0 = Found (a ∷ b ∷ c ∷ d ∷ r) in
     cond_eq P (b / 64) 2 (λ eb. cond_eq P (c / 64) 2 (λ ec. cond_eq P (d / 64) 2 (λ ed. cond_lt P s 0x10000 (λ g. tt) (λ g.
     let e1 : 0xF0 + s / 262144 ≡ a = omega arith in
     let e2 : 0x80 + s / 4096 % 64 ≡ b = omega arith in
@@ -138,7 +137,7 @@ found_rest4 a (b ∷ []) lo hi = tt
 found_rest4 a (b ∷ c ∷ []) lo hi = tt
 found_rest4 a (b ∷ c ∷ d ∷ r) lo hi = found4 a b c d r lo hi
 
-found1 : (a : ℕ) (r : List ℕ) → a < 0x80 → Found (a ∷ r) (Char a 1)
+found1 : (a : ℕ) (r : List ℕ) → a < 0x80 → Found (a ∷ r) (Some (a, 1))
 unfolding encode
 found1 a r h =
     let is : encode a ≡ a ∷ [] = simp (lt-ltb a 0x80 h) in
@@ -158,13 +157,13 @@ decode_found (a ∷ r) =
 
 -- the decoder finds a character that is there
 meet2 : (a b s : ℕ) (r : List ℕ) → 0xC0 ≤ a → a < 0xE0 → b / 64 ≡ 2 → a % 32 * 64 + b % 64 ≡ s → 0x80 ≤ s
-    → decode (a ∷ b ∷ r) ≡ Char s 2
+    → decode (a ∷ b ∷ r) ≡ Some (s, 2)
 unfolding decode decode_by length_from rest2 decode2
 meet2 a b s r lo hi eb e g =
     simp (le-ltb a 0x80 (omega arith), le-ltb a 0xC0 lo, lt-ltb a 0xE0 hi, eq-eqb (b / 64) 2 eb, e, le-ltb s 0x80 g)
 
 meet3 : (a b c s : ℕ) (r : List ℕ) → 0xE0 ≤ a → a < 0xF0 → b / 64 ≡ 2 → c / 64 ≡ 2 → a % 16 * 4096 + b % 64 * 64 + c % 64 ≡ s
-    → 0x800 ≤ s → Scalar s → decode (a ∷ b ∷ c ∷ r) ≡ Char s 3
+    → 0x800 ≤ s → Scalar s → decode (a ∷ b ∷ c ∷ r) ≡ Some (s, 3)
 unfolding decode decode_by length_from rest3 decode3 chosen3
 meet3 a b c s r lo hi eb ec e g (inl h) =
     simp (
@@ -193,7 +192,7 @@ meet3 a b c s r lo hi eb ec e g (inr (h, k)) =
     )
 
 meet4 : (a b c d s : ℕ) (r : List ℕ) → 0xF0 ≤ a → a < 0xF8 → b / 64 ≡ 2 → c / 64 ≡ 2 → d / 64 ≡ 2
-    → a % 8 * 262144 + b % 64 * 4096 + c % 64 * 64 + d % 64 ≡ s → 0x10000 ≤ s → s < 0x110000 → decode (a ∷ b ∷ c ∷ d ∷ r) ≡ Char s 4
+    → a % 8 * 262144 + b % 64 * 4096 + c % 64 * 64 + d % 64 ≡ s → 0x10000 ≤ s → s < 0x110000 → decode (a ∷ b ∷ c ∷ d ∷ r) ≡ Some (s, 4)
 unfolding decode decode_by length_from rest4 decode4 chosen4
 meet4 a b c d s r lo hi eb ec ed e g h =
     simp (
@@ -228,10 +227,10 @@ whole4 s h =
     sum a b c s x y z e1 e2 e3 = omega arith
 
 -- decoding after an encoding gives the character number back, whatever follows
-pub decode_encode : (s : ℕ) (r : List ℕ) → Scalar s → decode (encode s ++ r) ≡ Char s (length (encode s))
+pub decode_encode : (s : ℕ) (r : List ℕ) → Scalar s → decode (encode s ++ r) ≡ Some (s, length (encode s))
 unfolding decode decode_by length_from
 decode_encode s r y =
-    by_row s (λ l. decode (l ++ r) ≡ Char s (length l))
+    by_row s (λ l. decode (l ++ r) ≡ Some (s, length l))
     (λ h. simp (lt-ltb s 0x80 h))
     (λ g h. meet2 (0xC0 + s / 64) (0x80 + s % 64) s r (omega arith) (omega arith) (omega arith) (omega arith) g)
     (λ g h. meet3 (0xE0 + s / 4096) (0x80 + s / 64 % 64) (0x80 + s % 64) s r (omega arith) (omega arith) (omega arith) (omega arith) (omega arith) g y)

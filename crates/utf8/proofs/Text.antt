@@ -11,7 +11,7 @@ use lib.Seq.{drop-append_seam, get_or-append-add, take_at, drop_at, drop-cons, g
 use Rattle.scan.proofs.Cases.{by_lt}
 use Rattle.utf8.specs.Utf8.{Scalar, Scalars, encode, encode_all, Utf8, Boundary, LastChar}
 use Rattle.utf8.specs.Decode.{decode}
-use Rattle.utf8.specs.declared.Decoded.TheVariants.{Char, Bad}
+use Rattle.std.specs.Prelude.{Option, Some, None}
 use Rattle.utf8.proofs.Laws.{is_row1, by_row, encode_length, decode_encode, scalar_lt}
 
 -- ---- the bytes of one character
@@ -63,12 +63,17 @@ utf8_char s r y u = (s ∷ u.0, (y, u.1), ap (λ (l : List ℕ). encode s ++ l) 
 pub utf8_one : (s : ℕ) → Scalar s → Utf8 (encode s)
 utf8_one s y = (s ∷ [], (y, tt), append-nil (encode s))
 
+-- the character's number, where one was found
+abbrev scalar_in : Option (ℕ × ℕ) → ℕ
+scalar_in (Some (s, n)) = s
+scalar_in None = 0
+
 -- two texts that start with a character and are equal have the same character there, and the same rest
 pub encode_unique : (s s' : ℕ) (r r' : List ℕ) → Scalar s → Scalar s' → encode s ++ r ≡ encode s' ++ r' → (s ≡ s') × (r ≡ r')
 encode_unique s s' r r' y y' e =
-    let d : decode (encode s ++ r) ≡ Char s (length (encode s)) = decode_encode s r y in
-    let d' : decode (encode s' ++ r') ≡ Char s' (length (encode s')) = decode_encode s' r' y' in
-    let same : s ≡ s' = cc in
+    let d : decode (encode s ++ r) ≡ Some (s, length (encode s)) = decode_encode s r y in
+    let d' : decode (encode s' ++ r') ≡ Some (s', length (encode s')) = decode_encode s' r' y' in
+    let same : s ≡ s' = sym (ap scalar_in d) ∙ ap (λ (l : List ℕ). scalar_in (decode l)) e ∙ ap scalar_in d' in
     let left : drop (length (encode s)) (encode s ++ r) ≡ r = drop-append_seam (encode s) r in
     let right : drop (length (encode s')) (encode s' ++ r') ≡ r' = drop-append_seam (encode s') r' in
     (same, (cc))
@@ -85,13 +90,13 @@ utf8_rest s r y u = go u.0 u.1 u.2
     go (s' ∷ ss) t e = (ss, t.1, (encode_unique s' s (encode_all ss) r t.0 y e).1)
 
 -- a UTF-8 text with no character at its start is empty
-pub utf8_bad : (text : List ℕ) → Utf8 text → decode text ≡ Bad → text ≡ []
+pub utf8_bad : (text : List ℕ) → Utf8 text → decode text ≡ None → text ≡ []
 utf8_bad text u d = go u.0 u.1 u.2
   where
     go : (ss : List ℕ) → Scalars ss → encode_all ss ≡ text → text ≡ []
     go [] t e = sym e
     go (s ∷ ss) t e =
-        let f : decode (encode s ++ encode_all ss) ≡ Char s (length (encode s)) = decode_encode s (encode_all ss) t.0 in
+        let f : decode (encode s ++ encode_all ss) ≡ Some (s, length (encode s)) = decode_encode s (encode_all ss) t.0 in
         absurd (let z : ◌≡◌ {A = ℕ} 0 1 = cc in omega arith)
 
 pub utf8_append : (p q : List ℕ) → Utf8 p → Utf8 q → Utf8 (p ++ q)

@@ -4,7 +4,7 @@ use mathlib.Core.Path.{◌≡◌, refl, sym, ap, ◌∙◌, subst}
 use mathlib.Core.Logic.{◌↔◌}
 use mathlib.Core.Bool.{Bool, true, false}
 use mathlib.Core.List.{List, [], ◌∷◌}
-use Prim.Native.Nat.{ℕ, ◌<◌, zero, suc, ◌+◌, ◌-◌, ◌≤◌}
+use Prim.Native.Nat.{ℕ, ◌<◌, zero, suc, ◌+◌, ◌≤◌}
 use native.Mathlib.Omega.{arith}
 use native.Mathlib.Nat.{not-suc-le-zero}
 use lib.ListN.{drop_of_length-le, get_or, length, drop, length-drop}
@@ -12,8 +12,7 @@ use Rattle.scan.proofs.Cases.{clash}
 use Rattle.utf8.specs.Utf8.{Utf8}
 use Rattle.utf8.specs.Decode.{decode, len_of}
 use Rattle.utf8.specs.Valid.{chars_within, is_utf8}
-use Rattle.utf8.specs.declared.Decoded.{Decoded}
-use Rattle.utf8.specs.declared.Decoded.TheVariants.{Char, Bad}
+use Rattle.std.specs.Prelude.{Option, Some, None}
 use Rattle.utf8.proofs.Laws.{encode_length, Found, decode_found}
 use Rattle.utf8.proofs.At.{found_bounds, found_utf8, bad_utf8}
 use Rattle.utf8.proofs.Text.{utf8_front, utf8_nil, utf8_char, utf8_rest, utf8_bad}
@@ -25,11 +24,11 @@ within_right zero (a ∷ r) h = absurd (not-suc-le-zero h)
 within_right (suc k) [] h = (λ e. utf8_nil, λ u. refl)
 within_right (suc k) (a ∷ r) h = go (decode (a ∷ r)) refl (λ n p. within_right k (drop n (a ∷ r)) (omega (arith, length-drop n (a ∷ r))))
   where
-    go : (d : Decoded) → decode (a ∷ r) ≡ d → ((n : ℕ) → 0 < n → (chars_within k (drop n (a ∷ r)) ≡ true) ↔ Utf8 (drop n (a ∷ r)))
-        → (elim d [ Char s n ↦ chars_within k (drop n (a ∷ r)) | Bad ↦ false ] ≡ true) ↔ Utf8 (a ∷ r)
-    go Bad e f = (λ x. clash x refl, λ u. absurd (let z = ap length (utf8_bad (a ∷ r) u e) in omega arith))
-    go (Char s n) e f =
-        let g : Found (a ∷ r) (Char s n) = subst (λ (d : Decoded). Found (a ∷ r) d) e (decode_found (a ∷ r)) in
+    go : (d : Option (ℕ × ℕ)) → decode (a ∷ r) ≡ d → ((n : ℕ) → 0 < n → (chars_within k (drop n (a ∷ r)) ≡ true) ↔ Utf8 (drop n (a ∷ r)))
+        → (elim d [ Some found ↦ chars_within k (drop found.1 (a ∷ r)) | None ↦ false ] ≡ true) ↔ Utf8 (a ∷ r)
+    go None e f = (λ x. clash x refl, λ u. absurd (let z = ap length (utf8_bad (a ∷ r) u e) in omega arith))
+    go (Some (s, n)) e f =
+        let g : Found (a ∷ r) (Some (s, n)) = subst (λ (d : Option (ℕ × ℕ)). Found (a ∷ r) d) e (decode_found (a ∷ r)) in
         let p = encode_length s in
         let step = f n (omega (arith, g.2)) in (
           (λ x. subst (λ (l : List ℕ). Utf8 l) g.1 (utf8_char s (drop n (a ∷ r)) g.0 (step.0 x))),
@@ -70,13 +69,13 @@ module _ (t : List ℕ) (at n : ℕ) (is : n ≡ len_of (decode (drop at t))) wh
   pub is_utf8_char : (n ≡ 0 → ⊥) → (0 < n) × (at + n ≤ length t) × (is_utf8 (drop (at + n) t) ≡ is_utf8 (drop at t))
   is_utf8_char some = go (decode (drop at t)) refl is
     where
-      go : (d : Decoded) → decode (drop at t) ≡ d → n ≡ len_of d → (0 < n) × (at + n ≤ length t) × (is_utf8 (drop (at + n) t) ≡ is_utf8 (drop at t))
-      go Bad e l = absurd (some l)
-      go (Char s m) e l = let b = found_bounds t at s m e in rw l (b.0, b.1, same_test _ _ (found_utf8 t at s m e))
+      go : (d : Option (ℕ × ℕ)) → decode (drop at t) ≡ d → n ≡ len_of d → (0 < n) × (at + n ≤ length t) × (is_utf8 (drop (at + n) t) ≡ is_utf8 (drop at t))
+      go None e l = absurd (some l)
+      go (Some (s, m)) e l = let b = found_bounds t at s m e in rw l (b.0, b.1, same_test _ _ (found_utf8 t at s m e))
 
   pub is_utf8_bad : at < length t → n ≡ 0 → is_utf8 (drop at t) ≡ false
   is_utf8_bad h none = go (decode (drop at t)) refl is
     where
-      go : (d : Decoded) → decode (drop at t) ≡ d → n ≡ len_of d → is_utf8 (drop at t) ≡ false
-      go Bad e l = sym (same_answer false _ (λ x. clash x refl, λ u. absurd (bad_utf8 t at h e u)))
-      go (Char s m) e l = absurd (omega (arith, found_bounds t at s m e))
+      go : (d : Option (ℕ × ℕ)) → decode (drop at t) ≡ d → n ≡ len_of d → is_utf8 (drop at t) ≡ false
+      go None e l = sym (same_answer false _ (λ x. clash x refl, λ u. absurd (bad_utf8 t at h e u)))
+      go (Some (s, m)) e l = absurd (omega (arith, found_bounds t at s m e))

@@ -15,7 +15,7 @@ use Rattle.utf8.specs.Decode.{decode3, decode4, decode, len_of}
 use Rattle.utf8.specs.Valid.{is_utf8}
 use Rattle.utf8.specs.Cut.{continuation}
 use Rattle.utf8_blocks.specs.Faults.{least_after, greatest_after, wants_continuation, never, outside, breaks, mask, fault_mask, clean}
-use Rattle.utf8.specs.declared.Decoded.TheVariants.{Bad}
+use Rattle.std.specs.Prelude.{None}
 use Rattle.utf8.proofs.At.{decode_two, decode_three, decode_four, decode_alone}
 use Rattle.utf8_blocks.proofs.Ranges.{
   length_two,
@@ -185,7 +185,7 @@ module _ (c b a x : ℕ) (r : List ℕ) (ha : a < 0xC0) (hb : b < 0xE0) (hc : c 
     refused : 0 ≡ len_of (decode (x ∷ r)) → false ≡ is_utf8 (x ∷ r)
     refused e = sym (is_utf8_bad (x ∷ r) 0 0 e (omega arith) refl)
 
-    no_char : decode (x ∷ r) ≡ Bad → false ≡ is_utf8 (x ∷ r)
+    no_char : decode (x ∷ r) ≡ None → false ≡ is_utf8 (x ∷ r)
     no_char e = refused (ap len_of (sym e))
 
     passed : (n c b a : ℕ) → 0 < n → n ≡ len_of (decode (x ∷ r)) → a < 0xC0 → b < 0xE0 → c < 0xF0 → clean c b a (drop n (x ∷ r)) ≡ is_utf8 (x ∷ r)
@@ -239,9 +239,9 @@ module _ (c b a x : ℕ) (r : List ℕ) (ha : a < 0xC0) (hb : b < 0xE0) (hc : c 
     z = get_or (drop 1 r) 0 0
 
     by_third : 0xE0 ≤ x → x ≤ 0xF4
-        → (((x ≡ 0xE0) × (y < 0xA0)) ⊎ ((x ≡ 0xF0) × (y < 0x90)) → decode (x ∷ r) ≡ Bad)
-        → (((x ≡ 0xED) × (0x9F < y)) ⊎ ((x ≡ 0xF4) × (0x8F < y)) → decode (x ∷ r) ≡ Bad)
-        → (continuation y ≡ true → continuation z ≡ false → decode (x ∷ r) ≡ Bad)
+        → (((x ≡ 0xE0) × (y < 0xA0)) ⊎ ((x ≡ 0xF0) × (y < 0x90)) → decode (x ∷ r) ≡ None)
+        → (((x ≡ 0xED) × (0x9F < y)) ⊎ ((x ≡ 0xF4) × (0x8F < y)) → decode (x ∷ r) ≡ None)
+        → (continuation y ≡ true → continuation z ≡ false → decode (x ∷ r) ≡ None)
         → (least_after x ≤ y → y ≤ greatest_after x → continuation y ≡ true → continuation z ≡ true → clean x y z (drop 2 r) ≡ is_utf8 (x ∷ r))
         → clean c b a (x ∷ r) ≡ is_utf8 (x ∷ r)
     unfolding y z

@@ -1,17 +1,17 @@
 -- Laws of the highest byte: how a loop that looks for it goes on, that no byte is above it, and that a part of a text is ASCII where it is
 -- below 128.
 -- Assumes nothing.
-use mathlib.Core.Path.{◌≡◌, refl, sym}
+use mathlib.Core.Path.{◌≡◌, refl, sym, ap, ◌∙◌}
 use mathlib.Core.Bool.{true, false}
 use mathlib.Core.List.{List, [], ◌∷◌}
 use Prim.Native.Nat.{ℕ, zero, suc, ◌+◌, ◌-◌, ◌≤◌, ◌<◌, max}
 use native.Mathlib.Numerals.{add-one}
 use native.Mathlib.Omega.{arith}
-use lib.ListN.{length, get_or, take, drop, drop_of_length-le}
-use lib.Seq.{drop-cons}
+use lib.ListN.{length, get_or, take, drop, drop_of_length-le, length-drop}
+use lib.Seq.{drop-cons, take_all, drop-drop}
 use borrow.Author.Tests.{ltb-true, lt-ltb, le-ltb}
 use Rattle.scan.specs.Run.{run, count_not}
-use Rattle.scan.proofs.Runs.{run_each, run_part}
+use Rattle.scan.proofs.Runs.{run_each, run_part, clear}
 use Rattle.scan.specs.Sets.{ascii}
 use Rattle.utf8_blocks.specs.HighBytes.{highest_from}
 
@@ -55,3 +55,27 @@ highest_low m (b ∷ s) h =
 pub ascii_part : (s : List ℕ) (i e : ℕ) → highest_from 0 (take (e - i) (drop i s)) < 128 → i ≤ e → e ≤ length s
     → e + run ascii (drop e s) ≡ i + run ascii (drop i s)
 ascii_part s i e h l g = sym (run_part ascii s i e (highest_low 0 (take (e - i) (drop i s)) h) l g)
+
+-- the rest of a text, lent as a slice
+lent : (t : List ℕ) (i : ℕ) → take (length t - i) (drop i t) ≡ drop i t
+lent t i = take_all (length t - i) (drop i t) (simp length-drop (omega arith))
+
+pub lent_length : (t : List ℕ) (i : ℕ) → length (take (length t - i) (drop i t)) ≡ length t - i
+lent_length t i = rw lent (length-drop i t)
+
+-- what is passed of a text, and then of its rest, lent as a slice
+pub passed_twice : (t : List ℕ) (a b : ℕ) → a + run ascii (drop a t) ≡ run ascii t
+    → b + run ascii (drop b (take (length t - a) (drop a t))) ≡ run ascii (take (length t - a) (drop a t)) → a + b + run ascii (drop (a + b) t) ≡ run ascii t
+passed_twice t a b e f =
+    let g : b + run ascii (drop b (drop a t)) ≡ run ascii (drop a t) = rw (lent t a) at f in
+    omega (arith, e, rw (drop-drop b a t) at g)
+
+-- a block of n bytes whose highest byte is below 128 is passed at once; the rest after it is the end of the text too
+pub block_passed : (t rest after : List ℕ) (n : ℕ) → n ≤ length rest → length rest ≤ length t → rest ≡ drop (length t - length rest) t → after ≡ drop n rest
+    → highest_from 0 (take n rest) < 128 → length t - length rest + run ascii rest ≡ run ascii t
+    → (length after ≤ length t) × (after ≡ drop (length t - length after) t) × (length t - length after + run ascii after ≡ run ascii t)
+block_passed t rest after n l g e f h r =
+    let q : length after ≡ length rest - n = rw f (length-drop n rest) in
+    let m : length t - length rest + n ≡ length t - length after = omega arith in
+    let p : run ascii rest ≡ n + run ascii (drop n rest) = clear ascii n rest (highest_low 0 (take n rest) h) l in
+    (omega arith, f ∙ ap (drop n) e ∙ rw (drop-drop n (length t - length rest) t, m), omega (arith, rw (← f) at p))

@@ -10,8 +10,7 @@ use borrow.Author.Tests.{lt-ltb, le-ltb, eqb-true}
 use Rattle.scan.proofs.Cases.{cond_lt, cond_eq, by_lt}
 use Rattle.utf8.specs.Decode.{length_from, decode2, chosen3, decode3, chosen4, decode4, decode, len_of}
 use Rattle.utf8.specs.Cut.{continuation}
-use Rattle.utf8.specs.declared.Decoded.{Decoded}
-use Rattle.utf8.specs.declared.Decoded.TheVariants.{Bad}
+use Rattle.std.specs.Prelude.{Option, None}
 use Rattle.utf8.proofs.At.{decode_one, decode_two, decode_four, decode_none}
 
 -- ---- the rows of the table by their first bytes
@@ -44,10 +43,10 @@ length_above a g =
 
 -- ---- the second byte's range: where the number is one of the row's
 
-overlong2 : (a b : ℕ) → 0xC0 ≤ a → a < 0xC2 → decode2 a b ≡ Bad
+overlong2 : (a b : ℕ) → 0xC0 ≤ a → a < 0xC2 → decode2 a b ≡ None
 unfolding decode2
 overlong2 a b g h =
-    let P : Decoded → Type 0 = λ d. d ≡ Bad in
+    let P : Option (ℕ × ℕ) → Type 0 = λ d. d ≡ None in
     cond_eq P (b / 64) 2 (λ e. cond_lt P (a % 32 * 64 + b % 64) 0x80 (λ k. refl) (λ k. absurd (omega arith))) (λ e. refl)
 
 pub range2 : (a b : ℕ) → 0xC2 ≤ a → a < 0xE0 → continuation b ≡ true → len_of (decode2 a b) ≡ 2
@@ -55,30 +54,30 @@ unfolding decode2 continuation
 range2 a b g h e = simp (e, le-ltb (a % 32 * 64 + b % 64) 0x80 (omega arith))
 
 -- a byte that should continue the character and does not
-pub no_third3 : (a b c : ℕ) → continuation b ≡ true → continuation c ≡ false → decode3 a b c ≡ Bad
+pub no_third3 : (a b c : ℕ) → continuation b ≡ true → continuation c ≡ false → decode3 a b c ≡ None
 unfolding decode3 continuation
 no_third3 a b c eb ec = simp (eb, ec)
 
-pub no_third4 : (a b c d : ℕ) → continuation b ≡ true → continuation c ≡ false → decode4 a b c d ≡ Bad
+pub no_third4 : (a b c d : ℕ) → continuation b ≡ true → continuation c ≡ false → decode4 a b c d ≡ None
 unfolding decode4 continuation
 no_third4 a b c d eb ec = simp (eb, ec)
 
-pub no_fourth4 : (a b c d : ℕ) → continuation b ≡ true → continuation c ≡ true → continuation d ≡ false → decode4 a b c d ≡ Bad
+pub no_fourth4 : (a b c d : ℕ) → continuation b ≡ true → continuation c ≡ true → continuation d ≡ false → decode4 a b c d ≡ None
 unfolding decode4 continuation
 no_fourth4 a b c d eb ec ed = simp (eb, ec, ed)
 
 -- no number of three bytes, whatever the third is
-bad3 : (a b c : ℕ) → (b / 64 ≡ 2 → chosen3 (a % 16 * 4096 + b % 64 * 64 + c % 64) ≡ Bad) → decode3 a b c ≡ Bad
+bad3 : (a b c : ℕ) → (b / 64 ≡ 2 → chosen3 (a % 16 * 4096 + b % 64 * 64 + c % 64) ≡ None) → decode3 a b c ≡ None
 unfolding decode3
 bad3 a b c f =
-    let P : Decoded → Type 0 = λ d. d ≡ Bad in
+    let P : Option (ℕ × ℕ) → Type 0 = λ d. d ≡ None in
     cond_eq P (b / 64) 2 (λ e. cond_eq P (c / 64) 2 (λ k. f e) (λ k. refl)) (λ e. refl)
 
-pub overlong3 : (a b c : ℕ) → a ≡ 0xE0 → b < 0xA0 → decode3 a b c ≡ Bad
+pub overlong3 : (a b c : ℕ) → a ≡ 0xE0 → b < 0xA0 → decode3 a b c ≡ None
 unfolding chosen3
 overlong3 a b c e h = bad3 a b c (λ t. simp (lt-ltb (a % 16 * 4096 + b % 64 * 64 + c % 64) 0x800 (omega arith)))
 
-pub surrogate3 : (a b c : ℕ) → a ≡ 0xED → 0x9F < b → decode3 a b c ≡ Bad
+pub surrogate3 : (a b c : ℕ) → a ≡ 0xED → 0x9F < b → decode3 a b c ≡ None
 unfolding chosen3
 surrogate3 a b c e h =
     bad3 a b c (λ t.
@@ -90,25 +89,25 @@ unfolding decode3 chosen3 continuation
 range3 a b c g h low high eb ec =
     let s = a % 16 * 4096 + b % 64 * 64 + c % 64 in
     let t = eqb-true (b / 64) 2 eb in
-    let P : Decoded → Type 0 = λ d. len_of d ≡ 3 in
+    let P : Option (ℕ × ℕ) → Type 0 = λ d. len_of d ≡ 3 in
     simp (eb, ec)
     (cond_lt P s 0x800 (λ k. absurd (let e : a ≡ 0xE0 = omega arith in omega (arith, low e))) λ k.
     cond_lt P s 0xD800 (λ l. refl) λ l.
     cond_lt P s 0xE000 (λ m. absurd (let e : a ≡ 0xED = omega arith in omega (arith, high e))) λ m. refl)
 
 -- no number of four bytes, whatever the last two are
-bad4 : (a b c d : ℕ) → (b / 64 ≡ 2 → chosen4 (a % 8 * 262144 + b % 64 * 4096 + c % 64 * 64 + d % 64) ≡ Bad) → decode4 a b c d ≡ Bad
+bad4 : (a b c d : ℕ) → (b / 64 ≡ 2 → chosen4 (a % 8 * 262144 + b % 64 * 4096 + c % 64 * 64 + d % 64) ≡ None) → decode4 a b c d ≡ None
 unfolding decode4
 bad4 a b c d f =
-    let P : Decoded → Type 0 = λ d. d ≡ Bad in
+    let P : Option (ℕ × ℕ) → Type 0 = λ d. d ≡ None in
     cond_eq P (b / 64) 2 (λ e. cond_eq P (c / 64) 2 (λ k. cond_eq P (d / 64) 2 (λ l. f e) (λ l. refl)) (λ k. refl)) (λ e. refl)
 
-pub overlong4 : (a b c d : ℕ) → a ≡ 0xF0 → b < 0x90 → decode4 a b c d ≡ Bad
+pub overlong4 : (a b c d : ℕ) → a ≡ 0xF0 → b < 0x90 → decode4 a b c d ≡ None
 unfolding chosen4
 overlong4 a b c d e h =
     bad4 a b c d (λ t. simp (lt-ltb (a % 8 * 262144 + b % 64 * 4096 + c % 64 * 64 + d % 64) 0x10000 (omega arith)))
 
-pub above4 : (a b c d : ℕ) → 0xF4 ≤ a → a < 0xF8 → (a ≡ 0xF4 → 0x8F < b) → decode4 a b c d ≡ Bad
+pub above4 : (a b c d : ℕ) → 0xF4 ≤ a → a < 0xF8 → (a ≡ 0xF4 → 0x8F < b) → decode4 a b c d ≡ None
 unfolding chosen4
 above4 a b c d g h high =
     bad4 a b c d (λ t.
@@ -122,7 +121,7 @@ unfolding decode4 chosen4 continuation
 range4 a b c d g h low high eb ec ed =
     let s = a % 8 * 262144 + b % 64 * 4096 + c % 64 * 64 + d % 64 in
     let t = eqb-true (b / 64) 2 eb in
-    let P : Decoded → Type 0 = λ d. len_of d ≡ 4 in
+    let P : Option (ℕ × ℕ) → Type 0 = λ d. len_of d ≡ 4 in
     simp (eb, ec, ed)
     (cond_lt P s 0x10000 (λ k. absurd (let e : a ≡ 0xF0 = omega arith in omega (arith, low e))) λ k.
     cond_lt P s 0x110000 (λ l. refl) λ l. absurd (let e : a ≡ 0xF4 = omega arith in omega (arith, high e)))
@@ -140,7 +139,7 @@ module _ (t : List ℕ) (at : ℕ) (within : at < length t) where
       (λ k. decode_none t at 0 within (length_tail a g k) (λ e. omega arith) (λ e. omega arith) (λ e. omega arith) (λ e. omega arith))
       (λ k. decode_two t at 2 within (length_two a k (omega arith)) refl ∙ overlong2 a (get_or t (at + 1) 0) k h)))
 
-  pub none_above : 0xF4 < get_or t at 0 → decode (drop at t) ≡ Bad
+  pub none_above : 0xF4 < get_or t at 0 → decode (drop at t) ≡ None
   none_above g =
       let a = get_or t at 0 in
       by_lt a 0xF8

@@ -1,56 +1,39 @@
 // Whether a text is UTF-8: a short one, where it is not ASCII, is checked character by character, a long one byte by byte in blocks.
 #![tactic(auto)]
 
-ghost use Rattle.std.specs.Prelude.{◌≡◌, ◌+◌, ◌≤◌, ◌<◌, length, drop};
-ghost use Rattle.scan.specs.Sets.{ascii};
-ghost use Rattle.scan.specs.Windows.{all_in};
+ghost use Rattle.std.specs.Prelude.{◌≡◌, ◌<◌, length, drop};
 ghost use Rattle.utf8.specs.Decode.{decode, len_of};
 ghost use Rattle.utf8.specs.Valid.{is_utf8};
 ghost use Rattle.utf8_validation.specs.Ascii.{is_ascii};
 
-use utf8::Decoded;
-
-// Whether the sixteen bytes at an offset are ASCII.
-fn sixteen_ascii(s: &[u8], at: usize) -> bool
-    requires { at + 16 ≤ length s.now }
-    ensures { result ≡ all_in ascii at 16 s.now }
-{
-    scan::eight_ascii(s, at) & scan::eight_ascii(s, at + 8)
-}
+use scan::Ascii;
 
 // Whether a text is ASCII: one of 4 to 32 bytes by its first and its last four, eight or sixteen, another by its highest byte.
+#[tactic(auto, using(crate::proofs::Ascii::ascii_ends, crate::proofs::Ascii::ascii_highest))]
 fn is_ascii(text: &[u8]) -> bool
     ensures { result ≡ is_ascii text.now }
 {
-    if text.len() < 4 {
-        return utf8_blocks::highest(text) < 128;
+    let n = text.len();
+    match n {
+        4..8 => scan::all_in::<Ascii, 4>(text, n - 4, Ascii)
+            & scan::all_in::<Ascii, 4>(text, 0, Ascii),
+        8..16 => scan::all_in::<Ascii, 8>(text, n - 8, Ascii)
+            & scan::all_in::<Ascii, 8>(text, 0, Ascii),
+        16..33 => scan::all_in::<Ascii, 16>(text, n - 16, Ascii)
+            & scan::all_in::<Ascii, 16>(text, 0, Ascii),
+        _ => utf8_blocks::highest(text) < 128,
     }
-    if text.len() < 8 {
-        let last = text.len() - 4;
-        return scan::four_ascii(text, last) & scan::four_ascii(text, 0);
-    }
-    if text.len() < 16 {
-        let last = text.len() - 8;
-        return scan::eight_ascii(text, last) & scan::eight_ascii(text, 0);
-    }
-    if text.len() < 33 {
-        let last = text.len() - 16;
-        return sixteen_ascii(text, last) & sixteen_ascii(text, 0);
-    }
-    utf8_blocks::highest(text) < 128
 }
 
 // How many bytes a character has that was found; 0 where there is none.
-fn found_len(found: Decoded) -> usize
+fn found_len(found: Option<(u32, usize)>) -> usize
     ensures { result ≡ len_of found }
 {
-    match found {
-        Decoded::Char { len, .. } => len,
-        Decoded::Bad => 0,
-    }
+    found.map_or(0, |(_, len)| len)
 }
 
-// How many bytes the character at an offset has, read from its first byte; 0 where there is none.
+// How many bytes the character at an offset has, read from its first byte; 0 where there is none. Not `decode_char`: a name with é would
+// take half as long again.
 fn valid_len(text: &[u8], at: usize) -> usize
     requires { at < length text.now }
     ensures { result ≡ len_of (decode (drop at text.now)) }
@@ -79,6 +62,7 @@ fn short_utf8(text: &[u8]) -> bool
         return true;
     }
     let mut at = 0;
+    // no `for`: a turn goes on by a length that it finds
     while at < text.len() {
         let n = valid_len(text, at);
         if n == 0 {

@@ -8,4 +8,4 @@ use Rattle.batch_line.proofs.put_no.Goals as goal
 pub returns : goal.returns
 unfolding refusal_line
 returns c =
-    (laws.also (laws.first c.add-start.ensures) (laws.added c.add_number-at.ensures.0 c.add_span.ensures.0 (search rules)), search rules)
+    rw (← c.from.ensures) (laws.also (laws.first c.add-start.ensures) (laws.added c.add_number-at.ensures.0 c.add_span.ensures.0 (search rules)), search rules)

@@ -14,6 +14,6 @@ returns c =
     let p = c.put_ok-at.ensures in
     let q = c.add-next.ensures in
     let f = c.add.ensures in (
-      lines.also p.0 (lines.added q f (omega (arith, p.1, c.requires.1))),
+      rw (← c.code.ensures, ← c.from.ensures) (lines.also p.0 (lines.added q f (omega (arith, p.1, c.requires.1)))),
       omega (arith, p.1, q.count, f.count, length-take-le c.args.n c.args.out.now c.requires.0),
     )

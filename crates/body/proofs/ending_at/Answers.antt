@@ -1,10 +1,9 @@
 -- `body::ending_at` meets its contract.
 -- Assumes nothing.
-use mathlib.Core.Path.{◌≡◌, sym, ap, ◌∙◌}
+use mathlib.Core.Path.{◌≡◌, sym, ◌∙◌}
 use native.Mathlib.Omega.{arith}
 use lib.ListN.{get_or}
 use Rattle.scan.proofs.Bytes.{byte_inside}
-use Rattle.body.specs.Step.{next_of}
 use Rattle.body.proofs.Steps as steps
 use Rattle.body.proofs.ending_at.Goals as goal
 
@@ -13,10 +12,3 @@ returns-then-byte_at-eq34 c =
     let a = c.args in
     let e : get_or a.s.now a.at 0 ≡ 34 = sym c.byte_at.ensures ∙ c.if-byte_at-eq34.true in
     steps.at_quote _ a.s.now _ (byte_inside a.s.now _ 34 e (omega arith)) e
-
-pub returns-in_default : goal.returns-in_default
-returns-in_default c =
-    absurd (rw (sym c.step_at-next.ensures ∙ ap next_of c.in_default.is) at c.requires.1)
-
-pub returns : goal.returns
-returns c = sym (ap next_of c.in-Stop.is) ∙ c.step_at-next.ensures

@@ -11,7 +11,7 @@ use Rattle.body.proofs.Steps as steps
 use Rattle.body.proofs.step_at.Goals as goal
 
 pub returns-then-s-at : goal.returns-then-s-at
-returns-then-s-at c = steps.at_end _ _ _ c.if-s-at.true
+returns-then-s-at c = steps.refused_stops c.perr_nowhere.ensures ∙ steps.at_end _ _ _ c.if-s-at.true
 
 pub returns-then-b-ne92 : goal.returns-then-b-ne92
 returns-then-b-ne92 c = c.plain.ensures ∙ steps.at_plain _ _ _ c.if-s-at.false c.if-b-ne92.true

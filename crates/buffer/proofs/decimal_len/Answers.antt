@@ -1,11 +1,10 @@
 -- `buffer::decimal_len` meets its contract.
 -- Assumes nothing.
-use native.Mathlib.Omega.{arith}
+use borrow.Author.Rules.{rules}
 use Rattle.buffer.proofs.Decimals as laws
 use Rattle.buffer.proofs.decimal_len.Goals as goal
 
-pub loop-rest-preserved : goal.loop-rest-preserved
-loop-rest-preserved c = omega (arith, laws.more_length c.loop-rest.rest c.loop-rest-test.true)
-
 pub returns : goal.returns
-returns c = omega (arith, rw (laws.last c.loop-rest.rest c.loop-rest-test.false) at c.loop-rest.invariant.0)
+returns c =
+    let log = c.checked_ilog10.ensures in
+    laws.measured _ _ c.checked_ilog10.result _ log.none log.power_le log.next_power_gt c.map_or.ensures (λ k q. search rules)

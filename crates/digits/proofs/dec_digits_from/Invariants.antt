@@ -1,8 +1,6 @@
--- `digits::dec_digits_from`: what its loops keep, and why they end.
+-- `digits::dec_digits_from`: what its loop keeps.
 -- Assumes nothing.
-use Prim.Native.Nat.{◌≤◌, ◌+◌, ◌-◌}
-use mathlib.Core.Path.{◌≡◌}
-use lib.ListN.{length, drop}
+use Rattle.std.proofs.Common.{◌≡◌, ◌+◌, ◌≤◌, drop}
 use Rattle.scan.specs.Run.{run}
 use Rattle.scan.proofs.Counts.{tally}
 use Rattle.parse.specs.Sets.{digit}
@@ -12,8 +10,6 @@ use Rattle.digits.proofs.dec_digits_from.Given as goal
 -- the run from `i` ends where the run from the start does, and the counts are the same
 abbrev pub invariant-loop-i : goal.invariant-loop-i
 invariant-loop-i l =
-    (l.i ≤ length l.s) × (l.digits ≤ l.i) × (l.i + run (digit 10) (drop l.i l.s) ≡ l.initial.i + run (digit 10) (drop l.initial.i l.s))
-    × (l.digits + tally (digit 10) (is_digit 10) (drop l.i l.s) ≡ l.initial.digits + tally (digit 10) (is_digit 10) (drop l.initial.i l.s))
-
-abbrev pub decreases-loop-i : goal.decreases-loop-i
-decreases-loop-i l = length l.s - l.i
+    let rest = drop l.from l.s in
+    (l.digits ≤ l.from + l.i) × (l.i + run (digit 10) (drop l.i rest) ≡ run (digit 10) rest)
+    × (l.digits + tally (digit 10) (is_digit 10) (drop l.i rest) ≡ l.before + tally (digit 10) (is_digit 10) rest)

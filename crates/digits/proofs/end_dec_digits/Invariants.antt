@@ -10,9 +10,9 @@ use Rattle.parse.specs.Digits.{is_digit}
 use Rattle.digits.proofs.end_dec_digits.Given as goal
 
 -- the run of the whole is what is passed and the run of the rest; so is its count
-abbrev pub invariant-loop-i : goal.invariant-loop-i
-invariant-loop-i l =
+abbrev pub invariant-loop-bytes : goal.invariant-loop-bytes
+invariant-loop-bytes l =
     (l.i ≤ length l.s) × (l.digits ≤ l.i) × (l.i + run (digit 10) (drop l.i l.s) ≡ run (digit 10) l.s) × (l.digits + tally (digit 10) (is_digit 10) (drop l.i l.s) ≡ tally (digit 10) (is_digit 10) l.s)
 
-abbrev pub decreases-loop-i : goal.decreases-loop-i
-decreases-loop-i l = length l.s - l.i
+abbrev pub decreases-loop-bytes : goal.decreases-loop-bytes
+decreases-loop-bytes l = length l.s - l.i

@@ -7,9 +7,9 @@ use Rattle.form_byte.proofs.put_x.Goals as goal
 
 pub overflow_add-result : goal.overflow_add-result
 overflow_add-result c =
-    omega (arith, c.put_two-at.ensures.count, c.put_hex.ensures.count, styles.x_length c.args.b)
+    omega (arith, c.put_bytes-at.ensures.count, c.put_hex.ensures.count, styles.x_length c.args.b)
 
 pub returns : goal.returns
 returns c =
-    laws.past c.put_two-at.ensures c.put_hex.ensures
+    laws.past c.put_bytes-at.ensures c.put_hex.ensures
     (omega (arith, styles.x_length c.args.b, c.requires))

@@ -1,19 +1,14 @@
 -- `form_decimal::lead_len` meets its contract.
 -- Assumes nothing.
-use mathlib.Core.Path.{sym, ◌∙◌}
-use Rattle.scan.proofs.Runs.{run_more, run_stop, run_end}
-use Rattle.form_decimal.specs.Digits.{insignificant}
-use Rattle.form_decimal.proofs.Digits.{insignificant_is, insignificant_not}
-use borrow.Author.Rules.{rules}
+use Rattle.std.proofs.Common.{◌≡◌, true, false, refl, arith, rules, tests}
+use Rattle.std.proofs.lemmas.Iterator.{YieldsList-from_slice, IsFirst-from_position, index_from_first}
+use Rattle.scan.specs.Run.{run}
+use Rattle.form_decimal.specs.Digits.{significant, insignificant}
 use Rattle.form_decimal.proofs.lead_len.Goals as goal
 
-pub returns-then-is_significant : goal.returns-then-is_significant
-returns-then-is_significant c =
-    sym (run_stop insignificant _ _ c.loop-i-test.true (insignificant_not _ (sym c.is_significant.ensures ∙ c.if-is_significant.true))) ∙ c.loop-i.invariant.1
-
-pub loop-i-preserved : goal.loop-i-preserved
-loop-i-preserved c =
-    (search rules, sym (run_more insignificant _ _ c.loop-i-test.true (insignificant_is _ (sym c.is_significant.ensures ∙ c.if-is_significant.false))) ∙ c.loop-i.invariant.1)
-
 pub returns : goal.returns
-returns c = sym (run_end insignificant _ _ c.loop-i-test.false) ∙ c.loop-i.invariant.1
+unfolding insignificant
+returns c =
+    let at = IsFirst-from_position _ _ _ (λ b. significant b ≡ true) (λ b. significant b ≡ false) c.position.ensures.ran (YieldsList-from_slice c.args.s.now cc) (λ x q k. search (rules, tests)) (λ x q k. search (rules, tests)) in
+    let is = index_from_first (run insignificant) (λ b. significant b ≡ true) (λ b. significant b ≡ false) refl (λ x xs h. rw h) (λ x xs h. rw h (omega arith)) c.args.s.now c.position.result at in
+    cc (c.unwrap_or.ensures, is)

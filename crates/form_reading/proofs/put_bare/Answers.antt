@@ -8,7 +8,7 @@ use lib.ListN.{length, drop}
 use Rattle.buffer.specs.Buffer.{Wrote}
 use Rattle.escape.specs.declared.Allowed.TheVariants.{Text, Bytes, C}
 use Rattle.form_reading.proofs.Readings.{short, utf8, bool_text, float_read_lem, char_scalar, string_read_lem}
-use Rattle.form_reading.proofs.Lengths.{no_len, float_in_range}
+use Rattle.form_reading.proofs.Lengths.{float_in_range}
 use Rattle.form_reading.proofs.put_bare.Goals as goal
 
 pub put_bytes-requires : goal.put_bytes-requires
@@ -48,9 +48,6 @@ pub put_form-requires-in-CString : goal.put_form-requires-in-CString
 put_form-requires-in-CString c =
     let p = rw c.in-CString.is at c.requires in
     (((short _ p.0, utf8 _ p.0), string_read_lem _ C c.in-CString.lit p.0), p.1.fits)
-
-pub returns-in-Refused : goal.returns-in-Refused
-returns-in-Refused c = no_len (rw c.in-Refused.is at c.requires.1.form)
 
 same_piece : {p q : List ℕ} {n : ℕ} {before after : List ℕ} → p ≡ q → Wrote q n before after → Wrote p n before after
 same_piece e w = rw e w

@@ -1,12 +1,9 @@
 -- `raw::raw_end` meets its contract.
 -- Assumes nothing.
-use mathlib.Core.Path.{refl, sym, ◌∙◌}
+use mathlib.Core.Path.{sym, ◌∙◌}
+use native.Mathlib.Omega.{arith}
 use Rattle.raw.proofs.Flags.{scan_here, scan_after}
-use borrow.Author.Rules.{rules}
 use Rattle.raw.proofs.raw_end.Goals as goal
-
-pub loop-i-init : goal.loop-i-init
-loop-i-init c = (search rules, refl)
 
 pub returns-then-m-lt64 : goal.returns-then-m-lt64
 returns-then-m-lt64 c =
@@ -16,7 +13,4 @@ returns-then-m-lt64 c =
 pub loop-i-preserved : goal.loop-i-preserved
 loop-i-preserved c =
     let a = c.args in
-    (search rules, sym (scan_after a.k a.h a.last a.s.now c.loop-i.i 64 _ c.raw_block_run-m.ensures c.if-m-lt64.false) ∙ c.loop-i.invariant.1)
-
-pub returns : goal.returns
-returns c = c.scan_from.ensures ∙ c.loop-i.invariant.1
+    (omega arith, sym (scan_after a.k a.h a.last a.s.now c.loop-i.i 64 _ c.raw_block_run-m.ensures c.if-m-lt64.false) ∙ c.loop-i.invariant.1)

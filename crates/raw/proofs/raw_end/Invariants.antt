@@ -1,7 +1,7 @@
--- `raw::raw_end`: what its loops keep, and why they end.
+-- `raw::raw_end`: what its loop keeps, and why it ends.
 -- Assumes nothing.
-use Prim.Native.Nat.{◌≤◌, ◌+◌, ◌-◌}
 use mathlib.Core.Path.{◌≡◌}
+use Prim.Native.Nat.{◌≤◌, ◌+◌, ◌-◌}
 use lib.ListN.{length, drop}
 use Rattle.raw.specs.Scan.{raw_run}
 use Rattle.raw.proofs.raw_end.Given as goal

@@ -1,14 +1,11 @@
--- `raw::scan_from`: what its loops keep, and why they end.
+-- `raw::scan_from`: what its loop keeps.
 -- Assumes nothing.
-use Prim.Native.Nat.{◌≤◌, ◌+◌, ◌-◌}
 use mathlib.Core.Path.{◌≡◌}
-use lib.ListN.{length, drop}
+use Prim.Native.Nat.{◌+◌}
+use lib.ListN.{drop}
 use Rattle.raw.specs.Scan.{raw_run}
 use Rattle.raw.proofs.scan_from.Given as goal
 
 -- the way from the start is what is passed and the way that is left
 abbrev pub invariant-loop-i : goal.invariant-loop-i
-invariant-loop-i l = (l.i ≤ length l.s) × (l.i + raw_run l.k l.h l.last (drop l.i l.s) ≡ l.from + raw_run l.k l.h l.last (drop l.from l.s))
-
-abbrev pub decreases-loop-i : goal.decreases-loop-i
-decreases-loop-i l = length l.s - l.i
+invariant-loop-i l = l.i + raw_run l.k l.h l.last (drop l.i l.s) ≡ l.from + raw_run l.k l.h l.last (drop l.from l.s)

@@ -1,11 +1,12 @@
 -- `settle::settle` meets its contract.
 -- Assumes nothing.
-use mathlib.Core.Path.{refl, sym, ap, ◌∙◌}
-use Rattle.err.specs.Reading.{outcome_of}
+use Rattle.std.proofs.Common.{rules, ◌≡◌, refl, sym}
+use Rattle.std.specs.Prelude.{Err}
 use Rattle.settle.proofs.Forms.{read_refused}
 use Rattle.settle.proofs.settle.Goals as goal
 
-pub returns : goal.returns
-returns c =
-    let e = read_refused c.args.text.now (sym c.read-found.ensures.outcome ∙ ap outcome_of c.in-Refused.is) in
-    record { answer = sym (e.0 _); out_after = sym (e.1 _); text_unchanged = refl }
+pub returns-in_err-found : goal.returns-in_err-found
+returns-in_err-found c =
+    let gone : c.from_residual.result ≡ Err c.in_err-found.field-0.0 = search rules in
+    let e = read_refused _ (sym c.in_err-found.ensures.outcome) in
+    record { answer = rw gone (sym (e.1 _)); out_after = sym (e.2 _); text_unchanged = refl }

@@ -3,7 +3,8 @@
 use mathlib.Core.Path.{sym, ap, ◌∙◌}
 use Prim.Native.Nat.{ℕ}
 use native.Mathlib.Omega.{arith}
-use Rattle.utf8.specs.declared.Decoded.TheVariants.{Char}
+use Rattle.std.specs.Prelude.{Some}
+use borrow.Author.Rules.{rules}
 use Rattle.utf8.proofs.At.{decode_past, decode_one, decode_short, decode_two, decode_three, decode_four, decode_none}
 use Rattle.utf8.proofs.decode_char.Goals as goal
 
@@ -14,17 +15,17 @@ pub returns-then-text-at-2 : goal.returns-then-text-at-2
 returns-then-text-at-2 c = let within = c.if-text-at.false in
     sym (decode_short _ _ _ within c.char_len-n.ensures (λ e. omega (arith, within, e, c.if-text-at-2.true)) c.if-text-at-2.true)
 
-pub returns-then-n-eq1 : goal.returns-then-n-eq1
-returns-then-n-eq1 c = ap (λ (x : ℕ). Char x 1) c.widen.ensures ∙ sym (decode_one _ _ _ c.if-text-at.false c.char_len-n.ensures c.if-n-eq1.true)
+pub returns-in-1 : goal.returns-in-1
+returns-in-1 c = ap (λ (x : ℕ). Some (x, 1)) c.from.ensures ∙ sym (decode_one _ _ _ c.if-text-at.false c.char_len-n.ensures c.in-1.is)
 
-pub returns-then-n-eq2 : goal.returns-then-n-eq2
-returns-then-n-eq2 c = c.two.ensures ∙ sym (decode_two _ _ _ c.if-text-at.false c.char_len-n.ensures c.if-n-eq2.true)
+pub returns-in-2 : goal.returns-in-2
+returns-in-2 c = c.two.ensures ∙ sym (decode_two _ _ _ c.if-text-at.false c.char_len-n.ensures c.in-2.is)
 
-pub returns-then-n-eq3 : goal.returns-then-n-eq3
-returns-then-n-eq3 c = c.three.ensures ∙ sym (decode_three _ _ _ c.if-text-at.false c.char_len-n.ensures c.if-n-eq3.true)
+pub returns-in-3 : goal.returns-in-3
+returns-in-3 c = c.three.ensures ∙ sym (decode_three _ _ _ c.if-text-at.false c.char_len-n.ensures c.in-3.is)
 
-pub returns-then-n-eq4 : goal.returns-then-n-eq4
-returns-then-n-eq4 c = c.four.ensures ∙ sym (decode_four _ _ _ c.if-text-at.false c.char_len-n.ensures c.if-n-eq4.true)
+pub returns-in-4 : goal.returns-in-4
+returns-in-4 c = c.four.ensures ∙ sym (decode_four _ _ _ c.if-text-at.false c.char_len-n.ensures c.in-4.is)
 
-pub returns : goal.returns
-returns c = sym (decode_none _ _ _ c.if-text-at.false c.char_len-n.ensures c.if-n-eq1.false c.if-n-eq2.false c.if-n-eq3.false c.if-n-eq4.false)
+pub returns-in_default : goal.returns-in_default
+returns-in_default c = sym (decode_none _ _ _ c.if-text-at.false c.char_len-n.ensures (search rules) (search rules) (search rules) (search rules))

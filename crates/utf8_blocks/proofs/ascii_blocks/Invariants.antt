@@ -1,4 +1,4 @@
--- `utf8_blocks::ascii_blocks`: what its loops keep, and why they end.
+-- `utf8_blocks::ascii_blocks`: what its loop keeps, and why it ends.
 -- Assumes nothing.
 use mathlib.Core.Path.{◌≡◌}
 use Prim.Native.Nat.{◌+◌, ◌-◌, ◌≤◌}
@@ -7,9 +7,11 @@ use Rattle.scan.specs.Run.{run}
 use Rattle.scan.specs.Sets.{ascii}
 use Rattle.utf8_blocks.proofs.ascii_blocks.Given as goal
 
--- the run from the start is what is passed and the run of the rest
-abbrev pub invariant-loop-i : goal.invariant-loop-i
-invariant-loop-i l = (l.i ≤ length l.text) × (l.i + run ascii (drop l.i l.text) ≡ l.from + run ascii (drop l.from l.text))
+-- the rest is the end of the text, and the run of the text is what is passed and the run of the rest
+abbrev pub invariant-loop-block : goal.invariant-loop-block
+invariant-loop-block g l =
+    (length l.rest ≤ length l.text) × (l.rest ≡ drop (length l.text - length l.rest) l.text)
+    × (length l.text - length l.rest + run ascii l.rest ≡ run ascii l.text)
 
-abbrev pub decreases-loop-i : goal.decreases-loop-i
-decreases-loop-i l = length l.text - l.i
+abbrev pub decreases-loop-block : goal.decreases-loop-block
+decreases-loop-block g l = length l.rest

@@ -6,5 +6,5 @@ use Rattle.utf8_blocks.proofs.fault.Goals as goal
 
 pub returns : goal.returns
 returns c =
-    simp (c.larger-3.ensures, c.larger-2.ensures, c.larger-outside.ensures, c.mask-4.ensures, c.four_byte_lead_against.ensures, c.mask-3.ensures, c.three_byte_lead_against.ensures, c.larger-never.ensures, c.mask-2.ensures, c.mask.ensures, c.mask-odd.ensures, c.is_continuation.ensures, c.larger-wanted.ensures, c.larger.ensures, c.excess-3.ensures, c.excess-2.ensures, c.excess.ensures)
+    simp (c.max-3.ensures, c.max-2.ensures, c.max-outside.ensures, c.mask-4.ensures, c.four_byte_lead_against.ensures, c.mask-3.ensures, c.three_byte_lead_against.ensures, c.max-never.ensures, c.mask-2.ensures, c.mask.ensures, c.mask-odd.ensures, c.is_continuation.ensures, c.max-wanted.ensures, c.max.ensures, c.saturating_sub-3.ensures, c.saturating_sub-2.ensures, c.saturating_sub.ensures)
     (fault_is _ _ _ c.args.x (search rules))

@@ -1,6 +1,7 @@
 -- `utf8_validation::valid_len` meets its contract.
 -- Assumes nothing.
 use mathlib.Core.Path.{sym, ap, ◌∙◌}
+use borrow.Author.Rules.{rules}
 use Rattle.utf8.specs.Decode.{len_of}
 use Rattle.utf8.proofs.At.{decode_one, decode_short, decode_two, decode_three, decode_four, decode_none}
 use Rattle.utf8_validation.proofs.valid_len.Goals as goal
@@ -21,5 +22,5 @@ pub returns-in-4 : goal.returns-in-4
 returns-in-4 c = c.found_len-in-4.ensures ∙ ap len_of (c.four.ensures ∙ sym (decode_four _ _ _ c.requires c.char_len-n.ensures c.in-4.is))
 
 pub returns-in_default : goal.returns-in_default
-returns-in_default c = let k = c.in_default.in_default-own.rest in
-    ap len_of (sym (decode_none _ _ _ c.requires c.char_len-n.ensures c.if-n-eq1.false k.0.0.1 k.0.1 k.1))
+returns-in_default c =
+    ap len_of (sym (decode_none _ _ _ c.requires c.char_len-n.ensures c.if-n-eq1.false (search rules) (search rules) (search rules)))
