@@ -1,23 +1,43 @@
--- The bytes that `eight_plain` tells of stand for themselves.
+-- Eight bytes by twos, for any test, and the bytes that `eight_plain` tells of: they stand for themselves.
 -- Assumes nothing.
-use mathlib.Core.Path.{◌≡◌, refl, sym}
+use mathlib.Core.Path.{◌≡◌, refl, sym, ◌∙◌}
 use mathlib.Core.Bool.{Bool, true, false, cond, not, ◌&&◌}
 use mathlib.Core.List.{List}
 use Prim.Native.Nat.{ℕ, zero, suc, ◌+◌, ◌≤◌, ◌<◌}
 use native.Mathlib.Omega.{arith}
 use lib.Dec.{eqb, ltb}
-use lib.ListN.{length, get_or}
-use borrow.Author.Tests.{ltb-true, le-ltb}
+use lib.ListN.{length, get_or, drop}
+use borrow.Author.Tests.{ltb-true, le-ltb, le-leb, lt-leb}
 use Rattle.scan.specs.Run.{run}
 use Rattle.scan.specs.Sets.{ascii}
 use Rattle.scan.specs.Windows.{all_in}
 use Rattle.scan.proofs.Cases.{clash}
-use Rattle.scan.proofs.Runs.{run_reach}
-use Rattle.scan.proofs.Windows.{all_each}
+use Rattle.scan.proofs.Runs.{run_more, run_stop, run_reach}
+use Rattle.scan.proofs.Windows.{all_each, all_join}
 use Rattle.escape.specs.Allows.{unicode, allow_nul}
 use Rattle.escape.specs.declared.Allowed.{Allowed}
 use Rattle.body_plain.specs.Plain.{plain_byte}
 use Rattle.body_plain.specs.PlainInAll.{plain_in_all, eight_plain}
+
+-- one byte that was tested
+one_in : (p : ℕ → Bool) (s : List ℕ) (at : ℕ) → at < length s → all_in p at 1 s ≡ p (get_or s at 0)
+unfolding all_in
+one_in p s at h = go (p (get_or s at 0)) refl
+  where
+    go : (t : Bool) → p (get_or s at 0) ≡ t → all_in p at 1 s ≡ t
+    go true e = le-leb 1 (run p (drop at s)) (omega (arith, run_more p s at h e))
+    go false e = lt-leb 1 (run p (drop at s)) (omega (arith, run_stop p s at h e))
+
+-- what was found of two bytes
+pub all_pair : (p : ℕ → Bool) (s : List ℕ) (at : ℕ) {t u : Bool} → at + 2 ≤ length s → t ≡ p (get_or s at 0) → u ≡ p (get_or s (at + 1) 0) → (t && u) ≡ all_in p at 2 s
+all_pair p s at h d e = all_join p s at 1 1 (d ∙ sym (one_in p s at (omega arith))) (e ∙ sym (one_in p s (at + 1) (omega arith)))
+
+-- what was found of eight bytes by twos
+pub all_twos : (p : ℕ → Bool) (s : List ℕ) (at : ℕ) {t u v w : Bool}
+    → t ≡ all_in p at 2 s → u ≡ all_in p (at + 2) 2 s → v ≡ all_in p (at + 4) 2 s → w ≡ all_in p (at + 6) 2 s → (t && u && (v && w)) ≡ all_in p at 8 s
+all_twos p s at d e f g =
+    let six : at + 6 ≡ at + 4 + 2 = omega arith in
+    all_join p s at 4 4 (all_join p s at 2 2 d e) (all_join p s (at + 4) 2 2 f (rw six at g))
 
 -- a sure byte stands for itself, where it is ASCII or the kind has other characters
 plain_in_all_lem : (k : Allowed) (b : ℕ) → plain_in_all b ≡ true → (unicode k ≡ false → ascii b ≡ true) → plain_byte k b ≡ true
