@@ -43,8 +43,8 @@ fn b_entry(text: &[u8]) -> Option<Kind>
     }
 }
 
-// The kind that entry 0 reads a text as, by its first byte, if it is known. No bytes are refused as by the integers' entry.
-pub fn entry_for(text: &[u8]) -> Option<Kind>
+// The kind that entry 0 reads a text as, by its first byte, if it is known. A text of no bytes is read, and refused, as an integer.
+fn entry_for(text: &[u8]) -> Option<Kind>
     ensures { entry_code result ≡ entry_for text.now }
 {
     let Some(b) = text.first() else {

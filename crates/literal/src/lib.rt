@@ -16,7 +16,7 @@ ghost use Rattle.literal.specs.Values.{largest_in, value_at};
 ghost use Rattle.literal.specs.Suffixes.{integer_from_suffix, float_from_suffix};
 
 use character_quote::Quote;
-use err::{Kind, Literal, ParseError, ParseErrorKind, Reading, StringLit};
+use err::{Kind, Literal, ParseError, ParseErrorKind, Reading};
 use escape::Allowed;
 use types::{FloatType, IntegerType};
 
