@@ -178,7 +178,8 @@ fn check_end(text: &[u8], lit: StringLit) -> Result<StringLit, ParseError>
     Err(err::perr(kind, start, start + 1))
 }
 
-// A body was measured that starts at an offset, and q bytes close it.
+// A body was measured that starts at an offset, and q bytes close it. Inlined: at a call what was measured and the literal would go through memory.
+#[inline(always)]
 pub fn after_body(
     text: &[u8],
     hashes: Option<u8>,

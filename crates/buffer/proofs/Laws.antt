@@ -6,7 +6,7 @@ use Prim.Native.Nat.{ℕ, suc, ◌+◌, ◌-◌, ◌≤◌, ◌<◌}
 use native.Mathlib.Omega.{arith}
 use native.Mathlib.Numerals.{add-one}
 use lib.ListN.{length, take, drop, set, get_or, length-append, length-drop, drop_of_length-le}
-use lib.Seq.{take_at, drop_at, drop-drop, drop-cons, set_at, take_all}
+use lib.Seq.{take_at, drop_at, drop-drop, drop-cons, set_at, take_all, take-suc}
 use borrow.Rule.Slice.PartMut.{put_mid}
 use Rattle.buffer.specs.Buffer.{over, Wrote}
 
@@ -64,3 +64,12 @@ stored {p} {at} {l} {out} a w h = record {
   bytes = rw (w.bytes, drop-cons l (length p) 0 (omega (arith, w.count)))
       (set_at p (get_or l (length p) 0) (drop (suc (length p)) l) a at (sym w.count) ∙ simp (append_assoc, length-append, add-one));
 }
+
+-- a list copied byte by byte: one more, and to its end
+pub copied : {i : ℕ} {l out : List ℕ} (piece : List ℕ) → Wrote (take i piece) i l out → i < length piece → i < length l
+    → Wrote (take (i + 1) piece) (i + 1) l (set out i (get_or piece i 0))
+copied {i} piece w h g =
+    let e : take (i + 1) piece ≡ take i piece ++ (get_or piece i 0 ∷ []) = rw (add-one, take-suc piece i 0 h) in rw e (stored _ w g)
+
+pub copied_all : {i : ℕ} {l out : List ℕ} (piece : List ℕ) → Wrote (take i piece) i l out → length piece ≤ i → Wrote piece i l out
+copied_all {i} piece w h = rw (take_all i piece h) at w

@@ -5,13 +5,14 @@ ghost use Rattle.std.specs.Prelude.{◌≡◌, ◌∷◌, [], ◌≤◌, ◌<◌
 ghost use Rattle.buffer.specs.Buffer.{Wrote};
 ghost use Rattle.buffer.specs.Digits.{decimal, hex_digit, hex_digits};
 
-// Writes a slice.
-#[tactic(auto, unfolding(crate::specs::Buffer::over))]
+// Writes a slice, byte by byte: `copy_from_slice` would be a call of memcpy or memmove, which the archive for C does without.
 pub fn put_bytes(out: &mut [u8], piece: &[u8]) -> usize
     requires { length piece.now ≤ length out.old }
     ensures { Wrote piece.now result out.old out.new }
 {
-    out[..piece.len()].copy_from_slice(piece);
+    for i in 0..piece.len() {
+        out[i] = piece[i];
+    }
     piece.len()
 }
 

@@ -1,7 +1,7 @@
 -- Which entry reads a text. But for the first, for contracts between functions, no sentence of a document; law `kind_read` (literal) joins them
 -- to what reading returns.
 -- Assumes nothing.
-use Rattle.std.specs.Prelude.{ℕ, Bool, cond, ◌||◌, List, [], ◌∷◌, eqb, get_or, Option, Some, None}
+use Rattle.std.specs.Prelude.{ℕ, Bool, cond, ◌||◌, List, [], ◌∷◌, eqb, get_or, Option, Some, None, Result, Ok, Err}
 use Rattle.scan.specs.Run.{run}
 use Rattle.parse.specs.Sets.{digit, dec_digit, starts_e}
 use Rattle.err.specs.Kinds.{kind_code}
@@ -49,3 +49,8 @@ chosen_entry code s = cond (eqb code 0) (entry_for s) code
 abbrev pub entry_code : Option Kind → ℕ
 entry_code (Some k) = kind_code k
 entry_code None = 9
+
+-- the entry that was chosen: that of the kind, or a number that is no kind's
+abbrev pub chosen_code : Result Kind ℕ → ℕ
+chosen_code (Ok k) = kind_code k
+chosen_code (Err n) = n

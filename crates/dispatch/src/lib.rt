@@ -1,8 +1,8 @@
 // Which entry reads a text.
 #![tactic(auto)]
 
-ghost use Rattle.std.specs.Prelude.{◌≡◌, min};
-ghost use Rattle.dispatch.specs.Entries.{starts_float, number_entry, byte_entry, entry_for, chosen_entry, entry_code};
+ghost use Rattle.std.specs.Prelude.{◌≡◌, ◌<◌, IfErr};
+ghost use Rattle.dispatch.specs.Entries.{starts_float, number_entry, byte_entry, entry_for, chosen_entry, entry_code, chosen_code};
 ghost use Rattle.err.specs.Kinds.{kind_code};
 
 use err::Kind;
@@ -47,28 +47,39 @@ fn b_entry(text: &[u8]) -> Option<Kind>
 fn entry_for(text: &[u8]) -> Option<Kind>
     ensures { entry_code result ≡ entry_for text.now }
 {
-    let Some(b) = text.first() else {
+    let Some(&b) = text.first() else {
         return Some(Kind::Integer);
     };
-    match *b {
-        // most texts are strings
-        b'"' | b'r' => Some(Kind::String),
-        b'\'' => Some(Kind::Char),
-        b'b' => b_entry(text),
+    // most texts are strings; tested by itself, so that LLVM goes on from here to the string's body
+    if b == b'"' {
+        return Some(Kind::String);
+    }
+    if b == b'\'' {
+        return Some(Kind::Char);
+    }
+    if b == b'b' {
+        return b_entry(text);
+    }
+    if parse::is_decimal(b) {
+        return Some(number_entry(text));
+    }
+    match b {
         b'f' | b't' => Some(Kind::Bool),
+        b'r' => Some(Kind::String),
         b'c' => Some(Kind::CString),
-        b'0'..=b'9' => Some(number_entry(text)),
         _ => None,
     }
 }
 
-// The kind that reads a text by an entry code: that of the code, but for 0. Codes above 8 have none.
+// The kind that reads a text by an entry code: that of the code, but for 0. Where there is none, a number that is no kind's code: the code itself, or 9 for
+// a text that entry 0 does not know.
 #[tactic(auto, unfolding(crate::specs::Entries::chosen_entry))]
-pub fn chosen(code: u64, text: &[u8]) -> Option<Kind>
-    ensures { entry_code result ≡ chosen_entry (min code 9) text.now }
+pub fn chosen(code: u64, text: &[u8]) -> Result<Kind, u64>
+    ensures number { chosen_code result ≡ chosen_entry code text.now }
+    ensures none { IfErr result (λ n. 8 < n) }
 {
     if code == 0 {
-        return entry_for(text);
+        return entry_for(text).ok_or(9);
     }
-    Kind::from_code(code)
+    Kind::from_code(code).ok_or(code)
 }

@@ -67,7 +67,8 @@ fn packed_scalar(v: u32, n: usize, k: Allowed) -> u64
     n as u64 * LEN_UNIT + 257 + u64::from(v)
 }
 
-// An escape by `u` as one number, or 0 where it is refused.
+// An escape by `u` as one number, or 0 where it is refused. Not inlined: the registers that its loop wants would be saved for every other escape too.
+#[inline(never)]
 fn packed_u(s: &[u8], k: Allowed) -> u64
     requires { length s.now < 4294967296 }
     ensures { result ≡ packed_escape (u_escape k s.now) }

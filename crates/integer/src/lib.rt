@@ -16,12 +16,16 @@ use parse::DigitRun;
 fn base_of(text: &[u8]) -> IntegerBase
     ensures { (base_of result ≡ base_at text.now) × (length (prefix_of result) ≤ length text.now) }
 {
-    match text {
-        [b'0', b'b', ..] => IntegerBase::Binary,
-        [b'0', b'o', ..] => IntegerBase::Octal,
-        [b'0', b'x', ..] => IntegerBase::Hexadecimal,
-        _ => IntegerBase::Decimal,
+    if text.starts_with(IntegerBase::Binary.prefix()) {
+        return IntegerBase::Binary;
     }
+    if text.starts_with(IntegerBase::Octal.prefix()) {
+        return IntegerBase::Octal;
+    }
+    if text.starts_with(IntegerBase::Hexadecimal.prefix()) {
+        return IntegerBase::Hexadecimal;
+    }
+    IntegerBase::Decimal
 }
 
 // The digits and `_` at the front.

@@ -4,6 +4,7 @@
 ghost use Rattle.std.specs.Prelude.{◌≡◌, ◌+◌, ◌*◌, ◌/◌, ◌≤◌, leb, length};
 ghost use Rattle.std.proofs.Math.Seq.{slice};
 ghost use Rattle.err.specs.Reading.{base_of};
+ghost use Rattle.parse.specs.Class.{class_of};
 ghost use Rattle.integer_value.specs.Value.{number, number_within, bounded, valued_of};
 
 use err::{IntegerBase, IntegerLit, ParseError, ParseErrorKind};
@@ -19,6 +20,16 @@ fn is_within(n: u64, d: u64, by: u64, largest: u64, quotient: u64) -> bool
     d <= largest - n * by
 }
 
+// The class of a byte. That of a decimal digit is told first: most digits are decimal, and the tests of the others stay out of their way.
+fn digit_class(b: u8) -> u8
+    ensures { result ≡ class_of b }
+{
+    if parse::is_decimal(b) {
+        return b - b'0';
+    }
+    parse::class_of(b)
+}
+
 // The digits' number, if it is at most the largest. One pass, left at the digit that passes it.
 pub fn number_within(digits: &[u8], base: IntegerBase, largest: u64) -> Option<u64>
     ensures { result ≡ number_within largest (number (base_of base) digits.now) }
@@ -30,7 +41,7 @@ pub fn number_within(digits: &[u8], base: IntegerBase, largest: u64) -> Option<u
         if *b == b'_' {
             continue;
         }
-        let d = u64::from(parse::class_of(*b));
+        let d = u64::from(digit_class(*b));
         if !is_within(n, d, by, largest, quotient) {
             return None;
         }

@@ -3,11 +3,12 @@
 use mathlib.Core.Path.{◌≡◌, refl, ap, sym, ◌∙◌}
 use mathlib.Core.Bool.{Bool, true, false, cond, ◌||◌}
 use mathlib.Core.List.{List, [], ◌∷◌}
-use Prim.Native.Nat.{ℕ, zero, suc, ◌≤◌}
+use Prim.Native.Nat.{ℕ, zero, suc, ◌≤◌, ◌<◌}
 use native.Mathlib.Omega.{arith}
+use borrow.Author.Tests.{ne_eqb}
 use lib.Dec.{eqb}
 use lib.ListN.{get_or}
-use Rattle.std.specs.Prelude.{Option, Some, None, min}
+use Rattle.std.specs.Prelude.{Result, Ok, Err, IfErr}
 use Rattle.err.specs.Outcome.{Outcome, refused, none}
 use Rattle.err.specs.declared.Kind.{Kind}
 use Rattle.err.specs.declared.Kind.TheVariants as kind
@@ -18,7 +19,7 @@ use Rattle.integer.specs.Integer.{integer_read}
 use Rattle.float.specs.Float.{float_read}
 use Rattle.character.specs.Single.{char_read, byte_read}
 use Rattle.string.specs.String.{string_read}
-use Rattle.dispatch.specs.Entries.{starts_float, number_entry, byte_entry, entry_by, entry_for, chosen_entry, entry_code}
+use Rattle.dispatch.specs.Entries.{starts_float, number_entry, byte_entry, entry_by, entry_for, chosen_entry, chosen_code}
 use Rattle.literal.specs.Readings.{number_read, byte_or_string_read, any_by, any_read, entry_read}
 use Rattle.literal.proofs.Entries.{by_code}
 
@@ -75,31 +76,48 @@ chosen_read (suc code) s l =
     by_code (λ c. entry_read c s ≡ by_entry (chosen_entry c s) s) refl refl refl refl refl refl refl refl (suc code) (omega arith) l
 
 -- what the code calls for the kind that was chosen
-abbrev pub by_kind : Option Kind → List ℕ → Outcome
-by_kind None s = refused 3 none
-by_kind (Some kind.Bool) s = bool_read s
-by_kind (Some kind.Integer) s = integer_read s
-by_kind (Some kind.Float) s = float_read s
-by_kind (Some kind.Char) s = char_read s
-by_kind (Some kind.String) s = string_read Text s
-by_kind (Some kind.Byte) s = byte_read s
-by_kind (Some kind.ByteString) s = string_read Bytes s
-by_kind (Some kind.CString) s = string_read C s
+abbrev pub by_kind : Result Kind ℕ → List ℕ → Outcome
+by_kind (Err n) s = refused 3 none
+by_kind (Ok kind.Bool) s = bool_read s
+by_kind (Ok kind.Integer) s = integer_read s
+by_kind (Ok kind.Float) s = float_read s
+by_kind (Ok kind.Char) s = char_read s
+by_kind (Ok kind.String) s = string_read Text s
+by_kind (Ok kind.Byte) s = byte_read s
+by_kind (Ok kind.ByteString) s = string_read Bytes s
+by_kind (Ok kind.CString) s = string_read C s
 
-of_kind : (k : Option Kind) (s : List ℕ) → by_kind k s ≡ by_entry (entry_code k) s
+-- a number above 8 is no kind's
+above : (n : ℕ) (s : List ℕ) → 8 < n → refused 3 none ≡ by_entry n s
 unfolding by_entry
-of_kind None s = refl
-of_kind (Some kind.Bool) s = refl
-of_kind (Some kind.Integer) s = refl
-of_kind (Some kind.Float) s = refl
-of_kind (Some kind.Char) s = refl
-of_kind (Some kind.String) s = refl
-of_kind (Some kind.Byte) s = refl
-of_kind (Some kind.ByteString) s = refl
-of_kind (Some kind.CString) s = refl
+above n s l =
+    rw (
+      ne_eqb n 1 (λ e. omega arith),
+      ne_eqb n 2 (λ e. omega arith),
+      ne_eqb n 3 (λ e. omega arith),
+      ne_eqb n 4 (λ e. omega arith),
+      ne_eqb n 5 (λ e. omega arith),
+      ne_eqb n 6 (λ e. omega arith),
+      ne_eqb n 7 (λ e. omega arith),
+      ne_eqb n 8 (λ e. omega arith),
+    )
+
+of_kind : (k : Result Kind ℕ) (s : List ℕ) → IfErr k (λ n. 8 < n) → by_kind k s ≡ by_entry (chosen_code k) s
+unfolding by_entry
+of_kind (Err n) s l = above n s l
+of_kind (Ok kind.Bool) s l = refl
+of_kind (Ok kind.Integer) s l = refl
+of_kind (Ok kind.Float) s l = refl
+of_kind (Ok kind.Char) s l = refl
+of_kind (Ok kind.String) s l = refl
+of_kind (Ok kind.Byte) s l = refl
+of_kind (Ok kind.ByteString) s l = refl
+of_kind (Ok kind.CString) s l = refl
 
 -- THE LAW: an entry code reads a text as the kind that is chosen for it
-pub kind_read : (k : Option Kind) (code : ℕ) (s : List ℕ) → code ≤ 8 → entry_code k ≡ chosen_entry (min code 9) s → by_kind k s ≡ entry_read code s
-kind_read k code s l e =
-    let c : min code 9 ≡ code = omega arith in
-    of_kind k s ∙ ap (λ (n : ℕ). by_entry n s) (e ∙ ap (λ (n : ℕ). chosen_entry n s) c) ∙ sym (chosen_read code s l)
+pub kind_read : (k : Result Kind ℕ) (code : ℕ) (s : List ℕ) → code ≤ 8 → chosen_code k ≡ chosen_entry code s → IfErr k (λ n. 8 < n) → by_kind k s ≡ entry_read code s
+kind_read k code s l e n = of_kind k s n ∙ ap (λ (m : ℕ). by_entry m s) e ∙ sym (chosen_read code s l)
+
+-- the same where the kind is known
+pub kind_known : (k : Result Kind ℕ) (m : Kind) (code : ℕ) (s : List ℕ) → code ≤ 8 → chosen_code k ≡ chosen_entry code s → IfErr k (λ n. 8 < n) → k ≡ Ok m → by_kind (Ok m) s ≡ entry_read code s
+kind_known k m code s l e n q = ap (λ (x : Result Kind ℕ). by_kind x s) (sym q) ∙ kind_read k code s l e n

@@ -67,7 +67,7 @@ read_at code s =
     (cond (eqb (text_fault s) 0) (entry_read code s) (refused (text_fault s) none))
     (refused 42 none)
 
--- ---- for contracts between functions, no sentence of a document; law `kind_read` joins them to the above
+-- ---- for contracts between functions, no sentence of a document; the proof of `literal::entry` joins them to the above
 
 -- what differs between a char and a byte, by the kind
 abbrev pub quote_in : Kind → Quote

@@ -71,13 +71,13 @@ fn entry(code: u64, text: &[u8]) -> Reading
     ensures outcome { outcome_of result ≡ entry_read code text.now }
     ensures counts { counts_of result ≡ digit_counts text.now (entry_read code text.now) }
 {
-    let Some(kind) = dispatch::chosen(code, text) else {
+    let Ok(kind) = dispatch::chosen(code, text) else {
         return Err(err::perr_nowhere(ParseErrorKind::InvalidLiteral));
     };
     match kind {
-        Kind::Bool => boolean::parse(text).map(Literal::Bool),
-        Kind::Integer => integer::parse(text).map(Literal::Integer),
-        Kind::Float => float::parse(text).map(Literal::Float),
+        Kind::Bool => Ok(Literal::Bool(boolean::parse(text)?)),
+        Kind::Integer => Ok(Literal::Integer(integer::parse(text)?)),
+        Kind::Float => Ok(Literal::Float(float::parse(text)?)),
         Kind::Char | Kind::Byte => character::parse(text, quote_of(kind)),
         Kind::String | Kind::ByteString | Kind::CString => string::parse(text, allowed_of(kind)),
     }
@@ -113,7 +113,12 @@ pub fn value(code: u64, text: &[u8]) -> Result<u64, ParseError>
     let Some(largest) = largest_coded(code) else {
         return Err(err::perr_nowhere(ParseErrorKind::BadCode));
     };
-    let Literal::Integer(lit) = read(2, text)? else {
+    // a `match`, not `?`: must-fail/value_refusal_without_span.edit changes what is returned here
+    let found = match read(2, text) {
+        Ok(found) => found,
+        Err(error) => return Err(error),
+    };
+    let Literal::Integer(lit) = found else {
         // entry 2 reads integers alone
         unreachable!()
     };

@@ -17,7 +17,7 @@ returns-then-not-is_within c =
     let base = c.from-by.ensures ∙ c.value.ensures in
     let two = base_ends c.args.base in
     let exceeds : c.args.largest < c.loop-b.n * c.from-by.result + c.from-d.result = leb-false _ _ (sym c.if-not-is_within.ensures) in
-    within_over _ _ (rw (← base, ← c.loop-b.invariant.1) (number_above _ _ _ _ _ (omega (arith, base, two.0)) c.loop-b-test.true c.if-b-eq95.false (omega (arith, c.from-d.ensures ∙ c.class_of.ensures))))
+    within_over _ _ (rw (← base, ← c.loop-b.invariant.1) (number_above _ _ _ _ _ (omega (arith, base, two.0)) c.loop-b-test.true c.if-b-eq95.false (omega (arith, c.from-d.ensures ∙ c.digit_class.ensures))))
 
 pub returns : goal.returns
 unfolding number

@@ -1,8 +1,7 @@
 -- `literal::value` meets its contract.
 -- Assumes nothing.
 use mathlib.Core.Path.{◌≡◌, sym, ap, ◌∙◌}
-use Rattle.std.proofs.Common.{rules}
-use Rattle.std.specs.Prelude.{Ok, Err}
+use Rattle.std.specs.Prelude.{Ok}
 use Rattle.err.specs.Reading.{outcome_of}
 use Rattle.err.specs.declared.Literal.{Literal}
 use Rattle.err.specs.declared.Literal.TheVariants as literal
@@ -15,22 +14,20 @@ pub returns-in_default-clause-answer : goal.returns-in_default-clause-answer
 unfolding value_at
 returns-in_default-clause-answer c = let e = c.perr_nowhere.ensures in rw (← c.largest_coded.ensures, c.in_default.is) cc
 
-pub returns-in_err-lit-clause-answer : goal.returns-in_err-lit-clause-answer
-returns-in_err-lit-clause-answer c =
-    let gone : c.from_residual.result ≡ Err c.in_err-lit.field-0.0 = search rules in
-    rw (gone, value_typed _ _ c.args.text.now c.in-Some.ensures) (value_refused _ _ c.in_err-lit.ensures.outcome)
+pub returns-in-Err-clause-answer : goal.returns-in-Err-clause-answer
+returns-in-Err-clause-answer c = rw (value_typed _ _ c.args.text.now c.in-Some.ensures) (value_refused _ _ c.in-Err.ensures.outcome)
 
 pub unreachable-requires : goal.unreachable-requires
-unreachable-requires c = integer_alone _ _ c.in_ok-lit.ensures.outcome c.in_default-2.not-Integer
+unreachable-requires c = integer_alone _ _ c.in-Ok.ensures.outcome c.in_default-found.not-Integer
 
 pub value_of-requires : goal.value_of-requires
 value_of-requires c =
     let is : read_at 2 c.args.text.now ≡ outcome_of (Ok (literal.Integer c.in-Integer.lit)) =
-    sym c.in_ok-lit.ensures.outcome ∙ ap (λ (l : Literal). outcome_of (Ok l)) c.in-Integer.is in
+    sym c.in-Ok.ensures.outcome ∙ ap (λ (l : Literal). outcome_of (Ok l)) c.in-Integer.is in
     value_ends 0 _ is
 
 pub returns-clause-answer : goal.returns-clause-answer
 returns-clause-answer c =
     let is : read_at 2 c.args.text.now ≡ outcome_of (Ok (literal.Integer c.in-Integer.lit)) =
-    sym c.in_ok-lit.ensures.outcome ∙ ap (λ (l : Literal). outcome_of (Ok l)) c.in-Integer.is in
+    sym c.in-Ok.ensures.outcome ∙ ap (λ (l : Literal). outcome_of (Ok l)) c.in-Integer.is in
     rw (value_typed _ _ c.args.text.now c.in-Some.ensures) (c.value_of.ensures ∙ value_given _ _ is)
