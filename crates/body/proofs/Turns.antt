@@ -14,6 +14,7 @@ use Rattle.escape_packed.specs.Packed.{packed_len, packed_value}
 use Rattle.body_plain.specs.Plain.{plain_byte}
 use Rattle.body.specs.Packed.{packed_backslash, Stopped}
 use Rattle.body.specs.Step.{piece, step_of}
+use Rattle.body.proofs.Steps.{at_quote}
 use Rattle.body.proofs.Within.{step_in}
 use Rattle.body.proofs.Bodies.{Passed, bounds, more}
 use Rattle.body.proofs.Codes.{code_step, code_stops}
@@ -70,3 +71,8 @@ module _ (k : Allowed) (s : List ℕ) (i b : ℕ) (is : b ≡ get_or s i 0) wher
 
   pub run_end : (e : ℕ) → (b ≡ 92 → ⊥) → e ≡ i + run (plain_byte k) (drop i s) → e ≡ i → Stopped (step_of k (drop i s))
   run_end e f h z = other_stops k s i (λ x. f (is ∙ x)) (sym z ∙ h)
+
+  pub quote_end : b ≡ 34 → Stopped (step_of k (drop i s))
+  quote_end f =
+      let e : get_or s i 0 ≡ 34 = sym is ∙ f in
+      rw (← at_quote k s i (byte_inside s i 34 e (omega arith)) e) tt

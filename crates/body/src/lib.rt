@@ -139,7 +139,8 @@ fn measure(s: &[u8], k: Allowed) -> Measured
     let mut n = i;
     // no `for`: a turn goes on by a length that it finds
     loop {
-        if scan::byte_at(s, i) == b'\\' {
+        let b = scan::byte_at(s, i);
+        if b == b'\\' {
             let c = packed_at(s, i, end, k);
             if c == 0 {
                 break;
@@ -147,6 +148,10 @@ fn measure(s: &[u8], k: Allowed) -> Measured
             n += escape::value_len(escape_packed::packed_value(c));
             i += escape_packed::packed_len(c);
             continue;
+        }
+        // almost all bodies end here: then no run of plain bytes is looked for
+        if b == b'"' {
+            break;
         }
         let e = body_plain::plain_end(s, i, k);
         if e == i {

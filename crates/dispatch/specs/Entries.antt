@@ -50,7 +50,7 @@ abbrev pub entry_code : Option Kind → ℕ
 entry_code (Some k) = kind_code k
 entry_code None = 9
 
--- the entry that was chosen: that of the kind, or a number that is no kind's
+-- the entry that was chosen: that of the kind, or a number that is no kind's code
 abbrev pub chosen_code : Result Kind ℕ → ℕ
 chosen_code (Ok k) = kind_code k
 chosen_code (Err n) = n

@@ -70,11 +70,12 @@ pub enum ParseErrorKind {
     OutTooSmall,
 }
 
-// Why a text is refused, and where, if there is a place: litrs's `ParseError`.
+// Why a text is refused, and where, if there is a place: litrs's `ParseError`. The kind stands first, in the word where an accepted reading has
+// its literal's kind.
 #[derive(Clone, Copy)]
 pub struct ParseError {
-    pub span: Option<Span>,
     pub kind: ParseErrorKind,
+    pub span: Option<Span>,
 }
 
 impl ParseError {
@@ -130,7 +131,8 @@ impl IntegerBase {
     }
 }
 
-// The literals. A field of less than eight bytes stands last: a reading is copied in words, and a first word made of bytes makes every copy wait.
+// The literals. A field of less than eight bytes stands second in each, so that in a reading all of them share one word: a word that is written in parts and
+// read whole makes every reader wait.
 
 // A bool: where its text ends, which is the start of its empty suffix, and its truth.
 #[derive(Clone, Copy)]
@@ -143,9 +145,9 @@ pub struct BoolLit {
 #[derive(Clone, Copy)]
 pub struct IntegerLit {
     pub start_main_part: usize,
+    pub base: IntegerBase,
     pub end_main_part: usize,
     pub digits: usize,
-    pub base: IntegerBase,
 }
 
 // A float: where the integer part, the fractional part and the exponent end, and how many digits each has (02, d). The suffix starts at the last end.
@@ -175,8 +177,8 @@ pub struct ByteLit {
 #[derive(Clone, Copy)]
 pub struct StringLit {
     pub value_len: usize,
-    pub start_suffix: usize,
     pub hashes: Option<u8>,
+    pub start_suffix: usize,
 }
 
 // The kinds of literals.

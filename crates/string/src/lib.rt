@@ -91,12 +91,10 @@ fn parse_lit(text: &[u8], k: Allowed) -> Result<StringLit, ParseError>
     requires { length text.now < 4294967296 }
     ensures { parsed_of k result ≡ string_read k text.now }
 {
-    if text.is_empty() {
-        return Err(err::perr_nowhere(ParseErrorKind::Empty));
-    }
     match opening_of(text, k) {
         Opening::Quoted => body::unescape_string(text, offset(k), k),
         Opening::Raw => raw::scan_raw_string(text, offset(k), k),
+        Opening::Neither if text.is_empty() => Err(err::perr_nowhere(ParseErrorKind::Empty)),
         Opening::Neither => Err(refused_start(k)),
     }
 }

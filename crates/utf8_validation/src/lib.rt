@@ -15,6 +15,8 @@ fn is_ascii(text: &[u8]) -> bool
 {
     let n = text.len();
     match n {
+        // an arm of its own: in it LLVM knows that the loop is short
+        0..4 => utf8_blocks::highest(text) < 128,
         4..8 => scan::all_in::<Ascii, 4>(text, n - 4, Ascii)
             & scan::all_in::<Ascii, 4>(text, 0, Ascii),
         8..16 => scan::all_in::<Ascii, 8>(text, n - 8, Ascii)

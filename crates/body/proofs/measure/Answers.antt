@@ -6,8 +6,8 @@ use Rattle.utf8.proofs.Cuts.{last_le}
 use Rattle.body.proofs.Within.{step_in}
 use Rattle.body.proofs.Bodies as bodies
 use Rattle.body.proofs.Runs as runs
-use Rattle.body.proofs.Turns.{code_turn, run_length, run_turn, code_end, run_end}
-use Rattle.body.proofs.measure.Goals.{then-byte_at-eq92+then-c-eq0, else-byte_at-eq92+then-e-i}
+use Rattle.body.proofs.Turns.{code_turn, run_length, run_turn, code_end, quote_end, run_end}
+use Rattle.body.proofs.measure.Goals.{then-b-eq92+then-c-eq0, else-b-eq92+then-b-eq34, else-b-eq92+else-b-eq34+then-e-i}
 use Rattle.body.proofs.measure.Goals as goal
 
 pub overflow_sub-end : goal.overflow_sub-end
@@ -28,13 +28,13 @@ overflow_add-i c =
     let t = code_turn c.args.k c.loop-c.invariant.1 _ _ _ c.packed_at-c.ensures c.if-c-eq0.false c.packed_len-i.ensures c.packed_value.ensures in
     omega (arith, t.passed.within)
 
-pub loop-c-smaller-then-byte_at-eq92 : goal.loop-c-smaller-then-byte_at-eq92
-loop-c-smaller-then-byte_at-eq92 c =
+pub loop-c-smaller-then-b-eq92 : goal.loop-c-smaller-then-b-eq92
+loop-c-smaller-then-b-eq92 c =
     let t = code_turn c.args.k c.loop-c.invariant.1 _ _ _ c.packed_at-c.ensures c.if-c-eq0.false c.packed_len-i.ensures c.packed_value.ensures in
     omega (arith, t.on, t.passed.within)
 
-pub loop-c-preserved-then-byte_at-eq92 : goal.loop-c-preserved-then-byte_at-eq92
-loop-c-preserved-then-byte_at-eq92 c =
+pub loop-c-preserved-then-b-eq92 : goal.loop-c-preserved-then-b-eq92
+loop-c-preserved-then-b-eq92 c =
     let t = code_turn c.args.k c.loop-c.invariant.1 _ _ _ c.packed_at-c.ensures c.if-c-eq0.false c.packed_len-i.ensures c.packed_value.ensures in
     (_, t.passed, omega (arith, t.count, c.value_len-n.ensures, c.loop-c.invariant.2))
 
@@ -47,9 +47,10 @@ loop-c-preserved c =
 pub ending_at-requires : goal.ending_at-requires
 ending_at-requires c = (
   c.last_len-last.ensures,
-  elim c.if-byte_at-eq92.branch [
-    | then-byte_at-eq92+then-c-eq0 w ↦ code_end c.args.k c.args.s.now c.loop-c.i _ c.byte_at.ensures _ w.if-byte_at-eq92.true w.packed_at-c.ensures w.if-c-eq0.true
-    | else-byte_at-eq92+then-e-i w ↦ run_end c.args.k c.args.s.now c.loop-c.i _ c.byte_at.ensures _ w.if-byte_at-eq92.false w.plain_end-e.ensures w.if-e-i.true
+  elim c.if-b-eq92.branch [
+    | then-b-eq92+then-c-eq0 w ↦ code_end c.args.k c.args.s.now c.loop-c.i _ c.byte_at-b.ensures _ w.if-b-eq92.true w.packed_at-c.ensures w.if-c-eq0.true
+    | else-b-eq92+then-b-eq34 w ↦ quote_end c.args.k c.args.s.now c.loop-c.i _ c.byte_at-b.ensures w.if-b-eq34.true
+    | else-b-eq92+else-b-eq34+then-e-i w ↦ run_end c.args.k c.args.s.now c.loop-c.i _ c.byte_at-b.ensures _ w.if-b-eq92.false w.plain_end-e.ensures w.if-e-i.true
   ],
 )
 

@@ -1,7 +1,6 @@
 -- `escape_packed::packed_u` meets its contract.
 -- Assumes nothing.
 use Rattle.std.proofs.Common.{ap, ◌∙◌, arith}
-use Rattle.scan.proofs.Parts.{part_to_end}
 use Rattle.escape.proofs.Hexes.{small}
 use Rattle.escape_packed.specs.Packed.{packed_escape}
 use Rattle.escape.proofs.Escapes as laws
@@ -15,17 +14,13 @@ pub returns-then-byte_at-ne123 : goal.returns-then-byte_at-ne123
 returns-then-byte_at-ne123 c = ap packed_escape (laws.u_no_brace _ _ (cc) (λ e. c.if-byte_at-ne123.true (c.byte_at.ensures ∙ e)))
 
 pub loop-i-init : goal.loop-i-init
-loop-i-init c = (omega arith, omega arith, rw part_to_end (braced.digits_code_lem _ _ (cc) (cc)))
+loop-i-init c = (omega arith, omega arith, braced.digits_code_lem _ _ (cc) (cc))
 
 pub overflow_mul-v : goal.overflow_mul-v
 overflow_mul-v c = let i = c.loop-i.invariant in omega (arith, small _ _ i.0 c.if-n-eq6.false i.1)
 
 pub overflow_add-v : goal.overflow_add-v
 overflow_add-v c = let i = c.loop-i.invariant in omega (arith, small _ _ i.0 c.if-n-eq6.false i.1)
-
-pub returns-then-i-eq0 : goal.returns-then-i-eq0
-returns-then-i-eq0 c =
-    braced.first _ _ _ _ _ c.loop-i-test.true (omega (arith, c.class_of-d.ensures)) c.if-i-eq0.true ∙ c.loop-i.invariant.2
 
 pub returns : goal.returns
 returns c = braced.at_end _ _ _ _ _ c.loop-i-test.false ∙ c.loop-i.invariant.2

@@ -8,4 +8,4 @@ use Rattle.escape_packed.proofs.packed_u.Given as goal
 
 -- what is left is worth the code of the whole
 abbrev pub invariant-loop-i : goal.invariant-loop-i
-invariant-loop-i l = (l.n ≤ 6) × (l.v < 16 ^ l.n) × (digits_code l.k l.i l.n l.v (drop l.i l.digits) ≡ packed_escape (u_escape l.k l.s))
+invariant-loop-i l = (l.n ≤ 6) × (l.v < 16 ^ l.n) × (digits_code l.k l.i l.n l.v (drop l.i l.s) ≡ packed_escape (u_escape l.k l.s))

@@ -1,7 +1,8 @@
 -- `string::parse_lit` meets its contract.
 -- Assumes nothing.
+use mathlib.Core.Path.{refl}
 use native.Mathlib.Omega.{arith}
-use Rattle.string.proofs.Starts.{known_quoted, known_raw}
+use Rattle.string.proofs.Starts.{known_quoted, known_raw, read_quoted, read_raw}
 use Rattle.string.proofs.Literals.{opening_inside}
 use Rattle.string.proofs.parse_lit.Goals as goal
 
@@ -16,3 +17,9 @@ pub scan_raw_string-requires : goal.scan_raw_string-requires
 scan_raw_string-requires c =
     let a = c.args in
     omega (arith, c.offset-in-Raw.ensures, opening_inside a.k a.text.now (known_raw a.k a.text.now _ c.opening_of.ensures c.in-Raw.is))
+
+pub returns-in-Quoted : goal.returns-in-Quoted
+returns-in-Quoted c = rw (read_quoted c.args.k c.args.text.now _ c.opening_of.ensures c.in-Quoted.is, c.unescape_string.ensures, c.offset.ensures) refl
+
+pub returns-in-Raw : goal.returns-in-Raw
+returns-in-Raw c = rw (read_raw c.args.k c.args.text.now _ c.opening_of.ensures c.in-Raw.is, c.scan_raw_string.ensures, c.offset-in-Raw.ensures) refl
