@@ -1,8 +1,7 @@
 -- `string::parse_lit` meets its contract.
 -- Assumes nothing.
-use mathlib.Core.Path.{refl}
 use native.Mathlib.Omega.{arith}
-use Rattle.string.proofs.Starts.{known_quoted, known_raw, read_quoted, read_raw}
+use Rattle.string.proofs.Starts.{known_quoted, known_raw, read_opened}
 use Rattle.string.proofs.Literals.{opening_inside}
 use Rattle.string.proofs.parse_lit.Goals as goal
 
@@ -19,7 +18,13 @@ scan_raw_string-requires c =
     omega (arith, c.offset-in-Raw.ensures, opening_inside a.k a.text.now (known_raw a.k a.text.now _ c.opening_of.ensures c.in-Raw.is))
 
 pub returns-in-Quoted : goal.returns-in-Quoted
-returns-in-Quoted c = rw (read_quoted c.args.k c.args.text.now _ c.opening_of.ensures c.in-Quoted.is, c.unescape_string.ensures, c.offset.ensures) refl
+returns-in-Quoted c =
+    let a = c.args in
+    let opens = known_quoted a.k a.text.now _ c.opening_of.ensures c.in-Quoted.is in
+    rw (read_opened a.k a.text.now _ c.opening_of.ensures opens, c.in-Quoted.is, c.unescape_string.ensures, c.offset.ensures)
 
 pub returns-in-Raw : goal.returns-in-Raw
-returns-in-Raw c = rw (read_raw c.args.k c.args.text.now _ c.opening_of.ensures c.in-Raw.is, c.scan_raw_string.ensures, c.offset-in-Raw.ensures) refl
+returns-in-Raw c =
+    let a = c.args in
+    let opens = known_raw a.k a.text.now _ c.opening_of.ensures c.in-Raw.is in
+    rw (read_opened a.k a.text.now _ c.opening_of.ensures opens, c.in-Raw.is, c.scan_raw_string.ensures, c.offset-in-Raw.ensures)
