@@ -8,7 +8,7 @@ use native.Mathlib.Omega.{arith}
 use borrow.Author.Tests.{lt-ltb, le-ltb, eq-eqb, ne_eqb}
 use lib.Dec.{eqb, ltb, eqb-suc-suc, eqb-zero-suc}
 use lib.ListN.{length, get_or, take, drop, length-drop, drop_of_length-le}
-use lib.Seq.{length-take-le}
+use lib.Seq.{drop-cons, length-take-le}
 use Rattle.scan.specs.Run.{run}
 use Rattle.scan.specs.Sets.{except}
 use Rattle.scan.proofs.Cases.{cond_in, cond_eq, cond_lt}
@@ -96,3 +96,7 @@ module _ (k : Allowed) where
   -- past the text's last byte there is no `}`
   pub at_end : (s : List ℕ) (i n v : ℕ) → length s ≤ i → 0 ≡ digits_code i n v (drop i s)
   at_end s i n v h = rw (drop_of_length-le s h)
+
+  -- nor is there a code where the first byte is no digit
+  pub first : (s : List ℕ) (i n v : ℕ) → i < length s → 16 ≤ class_of (get_or s i 0) → i ≡ 3 → 0 ≡ digits_code i n v (drop i s)
+  first s i n v h l e = rw (drop-cons s i 0, le-ltb _ _ l, eq-eqb _ _ e) (none (eqb (get_or s i 0) 125))
