@@ -97,6 +97,6 @@ module _ (k : Allowed) where
   pub at_end : (s : List ℕ) (i n v : ℕ) → length s ≤ i → 0 ≡ digits_code i n v (drop i s)
   at_end s i n v h = rw (drop_of_length-le s h)
 
-  -- nor is there a code where the first byte is no digit
+  -- the first byte after `\u{`, at offset 3, has to be a digit
   pub first : (s : List ℕ) (i n v : ℕ) → i < length s → 16 ≤ class_of (get_or s i 0) → i ≡ 3 → 0 ≡ digits_code i n v (drop i s)
   first s i n v h l e = rw (drop-cons s i 0, le-ltb _ _ l, eq-eqb _ _ e) (none (eqb (get_or s i 0) 125))
